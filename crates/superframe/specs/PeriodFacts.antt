@@ -1,0 +1,39 @@
+-- Periods in range have exactly one least common multiple, and whether periods are in range can be decided.
+use mathlib.Core.Path.{_≡_}
+use mathlib.Core.Logic.{Dec·and}
+use mathlib.Core.List.{List, [], _∷_, List·Mem, not-mem-nil, decidableBAll, forall-mem-cons}
+use Prim.Native.Nat.{ℕ, _*_, _≤_, _∣_}
+use native.Mathlib.Bridge.{le-prop}
+use native.Mathlib.Nat.{∣-prop, mul-pos, dvd-mul-left-of-dvd, dvd-mul-right, le-antisymm}
+use native.Mathlib.Decide.{decLe, decDvd}
+use native.Mathlib.Omega.{arith}
+use Rattle.superframe.specs.LeastFacts.{least-exists}
+use Rattle.superframe.specs.Periods.{InRange, AllInRange, IsCommonMultiple, IsLcm}
+
+pub decide-in-range : (periods : List ℕ) → Dec (AllInRange periods)
+decide-in-range = decidableBAll (λ p. Dec·and (decLe 1 p) (decLe p 240))
+
+decide-common-multiple : (periods : List ℕ) (m : ℕ) → Dec (IsCommonMultiple periods m)
+decide-common-multiple periods m = Dec·and (decLe 1 m) (decidableBAll (λ p. decDvd p m) periods)
+
+product : List ℕ → ℕ
+product [] = 1
+product (p ∷ ps) = p * product ps
+
+product-is-common-multiple : (periods : List ℕ) → ((p : ℕ) → List·Mem p periods → 1 ≤ p) → IsCommonMultiple periods (product periods)
+unfolding product
+product-is-common-multiple [] positive = (omega arith, λ p m. absurd (not-mem-nil m))
+product-is-common-multiple (x ∷ xs) positive =
+    let all = forall-mem-cons (λ p. le-prop) .0 positive in
+    let rest = product-is-common-multiple xs (all .1) in (
+      mul-pos (all .0) (rest .0),
+      forall-mem-cons (λ p. ∣-prop p (x * product xs)) .1 (dvd-mul-right x (product xs), λ p m. dvd-mul-left-of-dvd p (rest .1 p m) x),
+    )
+
+-- periods in range have a least common multiple ..
+pub lcm-exists : (periods : List ℕ) → AllInRange periods → (m : ℕ) × IsLcm periods m
+lcm-exists periods in-range = least-exists (IsCommonMultiple periods) (decide-common-multiple periods) (product periods) (product-is-common-multiple periods (λ p m. in-range p m .0))
+
+-- .. and only one
+pub lcm-unique : (periods : List ℕ) (m n : ℕ) → IsLcm periods m → IsLcm periods n → m ≡ n
+lcm-unique periods m n a b = le-antisymm (a .least n (b .holds)) (b .least m (a .holds))

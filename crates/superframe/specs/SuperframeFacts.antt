@@ -1,0 +1,43 @@
+-- What superframe-of is in each case, said of any least common multiple.
+use mathlib.Core.Path.{_≡_, refl, ap}
+use mathlib.Core.List.{List}
+use Prim.Native.Nat.{ℕ, _≤_, _<_}
+use native.Mathlib.Nat.{lt-irrefl, lt-of-lt-of-le}
+use native.Mathlib.Decide.{decLe}
+use native.Mathlib.Omega.{arith}
+use Rattle.superframe.specs.Periods.{AllInRange, IsCommonMultiple, IsLcm}
+use Rattle.superframe.specs.PeriodFacts.{decide-in-range, lcm-exists, lcm-unique}
+use Rattle.superframe.specs.Superframe.{Answered, refused, within-limit, by-range, superframe-of}
+
+module _ (periods : List ℕ) where
+  pub refuses-18 : (AllInRange periods → ⊥) → superframe-of periods ≡ refused 18
+  unfolding superframe-of by-range
+  refuses-18 bad = go (decide-in-range periods)
+    where
+      go : (d : Dec (AllInRange periods)) → by-range periods d ≡ refused 18
+      go (yes good) = absurd (bad good)
+      go (no _) = refl
+
+  pub gives-lcm : AllInRange periods → (m : ℕ) → IsLcm periods m → m ≤ 5040 → superframe-of periods ≡ record { answer = 0; value = m }
+  unfolding superframe-of by-range within-limit
+  gives-lcm good m lcm low = go (decide-in-range periods)
+    where
+      at : (n : ℕ) → n ≡ m → (d : Dec (n ≤ 5040)) → within-limit n d ≡ record { answer = 0; value = m }
+      at n e (yes _) = λ i. record { answer = 0; value = e i }
+      at n e (no high) = absurd (high (omega arith))
+
+      go : (d : Dec (AllInRange periods)) → by-range periods d ≡ record { answer = 0; value = m }
+      go (yes g) = at (lcm-exists periods g .0) (lcm-unique periods _ m (lcm-exists periods g .1) lcm) (decLe _ 5040)
+      go (no bad) = absurd (bad good)
+
+  pub refuses-19 : AllInRange periods → ((n : ℕ) → IsCommonMultiple periods n → 5040 < n) → superframe-of periods ≡ refused 19
+  unfolding superframe-of by-range within-limit
+  refuses-19 good high = go (decide-in-range periods)
+    where
+      at : (n : ℕ) → IsLcm periods n → (d : Dec (n ≤ 5040)) → within-limit n d ≡ refused 19
+      at n lcm (yes low) = absurd (lt-irrefl 5040 (lt-of-lt-of-le (high n (lcm .holds)) low))
+      at n lcm (no _) = refl
+
+      go : (d : Dec (AllInRange periods)) → by-range periods d ≡ refused 19
+      go (yes g) = at (lcm-exists periods g .0) (lcm-exists periods g .1) (decLe _ 5040)
+      go (no bad) = absurd (bad good)

@@ -1,0 +1,82 @@
+// The superframe helper: the least common multiple of the streams' periods, for the design office's C tool.
+ghost use mathlib.Core.Path.{_≡_};
+ghost use Rattle.superframe.specs.Periods.{InRange, AllInRange};
+ghost use Rattle.superframe.specs.Superframe.{superframe-of, packed};
+ghost use Rattle.superframe.specs.Inner.{IsGcd, IsLcmOfTwo, WithinLimit, IsLcmOrAbove, Decides, Packs};
+
+// The longest superframe that a planner takes.
+const LIMIT: u32 = 5040;
+
+// Euclid: the second number falls at each call.
+fn gcd(a: u32, b: u32) -> u32
+    ensures { λ r. ⌜ IsGcd a b r ⌝ }
+{
+    if b == 0 { a } else { gcd(b, a % b) }
+}
+
+// Dividing before multiplying keeps the product small.
+fn lcm_within_limit(m: u32, p: u32) -> u32
+    requires { ⌜ WithinLimit m × InRange p ⌝ }
+    ensures { λ r. ⌜ IsLcmOfTwo m p r ⌝ }
+{
+    let g = gcd(m, p);
+    m / g * p
+}
+
+// Whether every period is 1 to 240; the whole list is looked at, so that 18 wins over 19 wherever the bad one stands.
+fn all_in_range(periods: &[u8]) -> bool
+    ensures { λ r. ⌜ Decides r (AllInRange (now (periods .entry))) ⌝ }
+{
+    let mut i = 0;
+    while i < periods.len() {
+        let p = periods[i];
+        if p < 1 {
+            return false;
+        }
+        if 240 < p {
+            return false;
+        }
+        i += 1;
+    }
+    true
+}
+
+// Stops multiplying once the limit is passed, so nothing overflows however long the list is.
+fn lcm_in_range(periods: &[u8]) -> u32
+    requires { ⌜ AllInRange (now periods) ⌝ }
+    ensures { λ r. ⌜ IsLcmOrAbove (now (periods .entry)) r ⌝ }
+{
+    let mut m: u32 = 1;
+    let mut at = 0;
+    while at < periods.len() {
+        if LIMIT < m {
+            return m;
+        }
+        m = lcm_within_limit(m, periods[at] as u32);
+        at += 1;
+    }
+    m
+}
+
+// The answer and the value as the one number that C gets.
+fn pack_within_limit(answer: u32, value: u32) -> u32
+    requires { ⌜ Packs answer value ⌝ }
+    ensures { λ r. ⌜ r ≡ packed (record { answer = answer; value = value }) ⌝ }
+{
+    answer * 65536 + value
+}
+
+// 18 if a period is not 1 to 240, else 19 if the least common multiple is above 5,040, both with value 0; else that multiple.
+#[no_mangle]
+pub extern "C" fn superframe(periods: &[u8]) -> u32
+    ensures { λ r. ⌜ r ≡ packed (superframe-of (now (periods .entry))) ⌝ }
+{
+    if !all_in_range(periods) {
+        return pack_within_limit(18, 0);
+    }
+    let value = lcm_in_range(periods);
+    if LIMIT < value {
+        return pack_within_limit(19, 0);
+    }
+    pack_within_limit(0, value)
+}

@@ -1,30 +1,7 @@
 -- Euclid's step, and the least common multiple of two numbers by their greatest common divisor.
-use mathlib.Core.Path.{_≡_, subst, sym}
-use Prim.Native.Nat.{ℕ, zero, _+_, _*_, _/_, _%_, _≤_, _<_, _∣_}
-use native.Mathlib.Nat.{
-  dvd-refl,
-  dvd-zero,
-  dvd-trans,
-  dvd-mul-left,
-  dvd-mul-right,
-  dvd-mul-right-of-dvd,
-  dvd-add-iff-right,
-  dvd-mod-iff,
-  mul-dvd-mul-left,
-  dvd-of-mul-dvd-mul-right,
-  mul-dvd-mul-right,
-  div-mul-cancel,
-  div-le-self,
-  pos-of-dvd-of-pos,
-  mul-pos,
-  mul-le-mul-right,
-  mul-comm,
-  mul-assoc,
-  mul-right-comm,
-  mul-add,
-  div-add-mod,
-}
-use native.Mathlib.Omega.{arith}
+use mathlib.Core.Path.{_≡_, subst}
+use Prim.Native.Nat.{ℕ, _+_, _*_, _/_, _%_, _≤_, _∣_}
+use native.Mathlib.Nat.{dvd-refl, dvd-zero, dvd-mul-left, dvd-mul-right, dvd-mul-right-of-dvd, dvd-add-iff-right, dvd-mod-iff, mul-dvd-mul-left, dvd-of-mul-dvd-mul-right, mul-dvd-mul-right, div-mul-cancel, div-le-self, pos-of-dvd-of-pos, mul-pos, mul-le-mul-right, mul-comm, mul-assoc, mul-right-comm, mul-add, div-add-mod}
 use Rattle.superframe.specs.Inner.{IsGcd, IsLcmOfTwo}
 
 -- the recursion ends: what divides a and 0 best is a

@@ -5,7 +5,7 @@ use Prim.Native.Nat.{ℕ, _+_, _*_, _≤_, _<_, _∣_}
 use native.Mathlib.Nat.{∣-prop, dvd-trans, one-dvd, le-of-dvd, le-trans, mul-le-mul}
 use native.Mathlib.Omega.{arith}
 use lib.ListN.{length, take, getD}
-use Rattle.superframe.specs.Periods.{InRange, IsCommonMultiple}
+use Rattle.superframe.specs.Periods.{InRange}
 use Rattle.superframe.specs.Inner.{IsLcmOfTwo, WithinLimit, IsLcmOrAbove}
 use Rattle.superframe.proofs.Prefix.{take-next, all-snoc, mem-last, mem-take}
 

@@ -2,13 +2,13 @@
 use mathlib.Core.Path.{_≡_}
 use mathlib.Core.Logic.{Dec·and}
 use mathlib.Core.List.{List, [], _∷_, List·Mem, not-mem-nil, decidableBAll, forall-mem-cons}
-use Prim.Native.Nat.{ℕ, _*_, _≤_, _∣_}
+use Prim.Native.Nat.{ℕ, _*_, _≤_}
 use native.Mathlib.Bridge.{le-prop}
 use native.Mathlib.Nat.{∣-prop, mul-pos, dvd-mul-left-of-dvd, dvd-mul-right, le-antisymm}
 use native.Mathlib.Decide.{decLe, decDvd}
 use native.Mathlib.Omega.{arith}
 use Rattle.superframe.specs.LeastFacts.{least-exists}
-use Rattle.superframe.specs.Periods.{InRange, AllInRange, IsCommonMultiple, IsLcm}
+use Rattle.superframe.specs.Periods.{AllInRange, IsCommonMultiple, IsLcm}
 
 pub decide-in-range : (periods : List ℕ) → Dec (AllInRange periods)
 decide-in-range = decidableBAll (λ p. Dec·and (decLe 1 p) (decLe p 240))

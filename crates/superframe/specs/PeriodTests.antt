@@ -1,5 +1,5 @@
 -- Tests that the checker computes, so that a worked example of a least common multiple needs no argument of its own.
-use mathlib.Core.Path.{_≡_, refl, subst}
+use mathlib.Core.Path.{_≡_, refl}
 use mathlib.Core.Bool.{Bool, true, _&&_, So, and-eq-true-iff}
 use mathlib.Core.List.{List, [], _∷_, List·Mem, not-mem-nil, forall-mem-cons}
 use mathlib.Core.HLevel.{×-prop}
@@ -10,8 +10,7 @@ use native.Mathlib.Decide.{ℕ-discrete}
 use native.Mathlib.Omega.{arith}
 use lib.Dec.{leb}
 use borrow.Author.Tests.{leb-true}
-use Rattle.superframe.specs.Least.{IsLeast}
-use Rattle.superframe.specs.Periods.{InRange, AllInRange, IsCommonMultiple, IsLcm}
+use Rattle.superframe.specs.Periods.{AllInRange, IsCommonMultiple, IsLcm}
 
 -- what n leaves over when it is divided by the periods, added up: 0 where every period divides n
 unfoldable pub remainders : List ℕ → ℕ → ℕ

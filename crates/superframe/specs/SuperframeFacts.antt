@@ -1,5 +1,5 @@
 -- What superframe-of is in each case, said of any least common multiple.
-use mathlib.Core.Path.{_≡_, refl, ap}
+use mathlib.Core.Path.{_≡_, refl}
 use mathlib.Core.List.{List}
 use Prim.Native.Nat.{ℕ, _≤_, _<_}
 use native.Mathlib.Nat.{lt-irrefl, lt-of-lt-of-le}
@@ -7,7 +7,7 @@ use native.Mathlib.Decide.{decLe}
 use native.Mathlib.Omega.{arith}
 use Rattle.superframe.specs.Periods.{AllInRange, IsCommonMultiple, IsLcm}
 use Rattle.superframe.specs.PeriodFacts.{decide-in-range, lcm-exists, lcm-unique}
-use Rattle.superframe.specs.Superframe.{Answered, refused, within-limit, by-range, superframe-of}
+use Rattle.superframe.specs.Superframe.{refused, within-limit, by-range, superframe-of}
 
 module _ (periods : List ℕ) where
   pub refuses-18 : (AllInRange periods → ⊥) → superframe-of periods ≡ refused 18

@@ -1,5 +1,4 @@
 -- `superframe::all_in_range` meets its contract: every period before i is in range, and one that is not ends the search.
-use mathlib.Core.Path.{_≡_, refl}
 use mathlib.Core.Bool.{false, true≢false, false≢true}
 use mathlib.Core.List.{List, not-mem-nil}
 use mathlib.Core.HLevel.{×-prop}

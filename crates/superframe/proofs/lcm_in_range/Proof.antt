@@ -2,7 +2,7 @@
 use Prim.Native.Nat.{_≤_, _-_}
 use native.Mathlib.Nat.{lt-irrefl, lt-of-lt-of-le}
 use native.Mathlib.Omega.{arith}
-use lib.ListN.{length, take, getD}
+use lib.ListN.{length, take}
 use lib.Seq.{take-all}
 use Rattle.superframe.proofs.Prefix.{mem-getD}
 use Rattle.superframe.proofs.Fold.{Folded, folded-none, folded-next, folded-done}

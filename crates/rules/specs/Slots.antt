@@ -1,0 +1,54 @@
+-- The slots of a round, and the table after it.
+use mathlib.Core.Bool.{Bool, cond, _&&_, _||_}
+use mathlib.Core.Logic.{ite, Dec·and}
+use mathlib.Core.List.{List, [], _∷_, List·Mem, map, filter, decMem}
+use Prim.Native.Nat.{ℕ, _+_}
+use native.Mathlib.Decide.{decLe, ℕ-discrete}
+use lib.Dec.{leb, ltb, eqb}
+use lib.ListN.{take}
+use Rattle.rules.specs.Streams.{Stream, Packet, packet, due, MayRide}
+
+-- Whether a packet may ride can be decided.
+abbrev pub may-ride : (q : Packet) (s : ℕ) → Dec (MayRide q s)
+may-ride q s = Dec·and (decLe (q .release) s) (decLe (s + 1) (q .due))
+
+-- The streams whose unserved packet may ride in a round at s.
+unfoldable pub riders : ℕ → List Stream → List Stream
+riders s ss = filter (λ (x : Stream). may-ride (packet x 0) s) ss
+
+-- 01: "by due time, then id": x goes before y.
+unfoldable pub goes-before : Stream → Stream → Bool
+goes-before x y = ltb (due x) (due y) || (eqb (due x) (due y) && leb (x .number) (y .number))
+
+-- x put into its place in a list that is in that order.
+unfoldable pub put-in-order : Stream → List Stream → List Stream
+put-in-order x [] = x ∷ []
+put-in-order x (y ∷ ys) = cond (goes-before x y) (x ∷ y ∷ ys) (y ∷ put-in-order x ys)
+
+-- The streams of a list in that order.
+unfoldable pub in-order : List Stream → List Stream
+in-order [] = []
+in-order (x ∷ xs) = put-in-order x (in-order xs)
+
+-- 01: "Slots: of the packets that may ride, the first B by due time, then id, written in that order".
+unfoldable pub slots : ℕ → ℕ → List Stream → List Stream
+slots b s ss = take b (in-order (riders s ss))
+
+-- The stream with its unserved packet sent: the next packet is released one period later.
+abbrev pub next : Stream → Stream
+next x = record { number = x .number; period = x .period; deadline = x .deadline; release = x .release + x .period }
+
+-- Whether a stream is among those served, told by its number.
+abbrev pub Served : List Stream → Stream → Type 0
+Served chosen x = List·Mem (x .number) (map (λ (y : Stream). y .number) chosen)
+
+abbrev pub served : (chosen : List Stream) (x : Stream) → Dec (Served chosen x)
+served chosen x = decMem ℕ-discrete (x .number) (map (λ (y : Stream). y .number) chosen)
+
+-- 01: "each stream served passes to its next packet".
+abbrev pub passed : List Stream → Stream → Stream
+passed chosen x = ite (served chosen x) (next x) x
+
+-- The table after a round at s.
+unfoldable pub after-round : ℕ → ℕ → List Stream → List Stream
+after-round b s ss = map (passed (slots b s ss)) ss

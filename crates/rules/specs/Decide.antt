@@ -2,26 +2,15 @@
 use mathlib.Core.Path.{_≡_}
 use mathlib.Core.Logic.{_⊎_, inl, inr}
 use mathlib.Core.List.{List, List·Mem}
-use Prim.Native.Nat.{ℕ, zero, suc, _+_, _-_, _*_, _≤_, _<_, _∣_, max}
+use Prim.Native.Nat.{ℕ, _+_, _-_, _*_, _≤_, _<_, _∣_, max}
 use native.Mathlib.Decide.{decLe, map-dec}
-use native.Mathlib.Numerals.{add-one}
 use native.Mathlib.Omega.{arith}
-use borrow.Author.Count.{below-none, below-more}
+use Rattle.basics.specs.Below.{decide-below}
 use Rattle.rules.specs.Streams.{Stream}
 use Rattle.rules.specs.Demand.{demand, future, DemandRule, StartRule, DueAfter}
 use Rattle.rules.specs.Sums.{AllWellFormed, Fits, start-rule-fits, fits-start-rule}
 use Rattle.rules.specs.Busy.{IsBusy, busy-settles-demand, busy-settles-start, frame-busy}
 use Rattle.rules.specs.LazyStart.{first-due, first-due-before}
-
--- what can be decided of every number can be decided of all numbers below n
-pub decide-below : (P : ℕ → Type 0) → ((t : ℕ) → Dec (P t)) → (n : ℕ) → Dec ((t : ℕ) → t < n → P t)
-decide-below P decide zero = yes (below-none P)
-decide-below P decide (suc n) = go (decide-below P decide n) (decide n)
-  where
-    go : Dec ((t : ℕ) → t < n → P t) → Dec (P n) → Dec ((t : ℕ) → t < suc n → P t)
-    go (no fails) here = no (λ all. fails (λ t below. all t (omega arith)))
-    go (yes earlier) (no fails) = no (λ all. fails (all n (omega arith)))
-    go (yes earlier) (yes here) = yes (rw add-one at (below-more P n earlier here))
 
 -- with a busy length T the demand rule is a test of T lengths
 pub decide-demand-busy : (b T : ℕ) (ss : List Stream) → AllWellFormed ss → IsBusy b ss T → Dec (DemandRule b ss)

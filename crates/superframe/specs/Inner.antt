@@ -1,14 +1,7 @@
 -- What the inner functions of the crate promise one another. No caller from outside sees these.
-use mathlib.Core.Path.{_≡_}
-use mathlib.Core.Bool.{Bool, true, false}
 use mathlib.Core.List.{List}
 use Prim.Native.Nat.{ℕ, _*_, _≤_, _∣_}
 use Rattle.superframe.specs.Periods.{IsCommonMultiple}
-
--- b is true exactly if P holds.
-pub record Decides (b : Bool) (P : Type 0) : Type 0 where
-  pub if-true : b ≡ true → P
-  pub if-false : b ≡ false → P → ⊥
 
 -- g divides a and b, and whatever divides k times each of them divides k times g; at k = 1, g is the greatest common divisor.
 pub record IsGcd (a b g : ℕ) : Type 0 where

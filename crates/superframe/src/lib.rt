@@ -1,8 +1,9 @@
 // The superframe helper: the least common multiple of the streams' periods, for the design office's C tool.
 ghost use mathlib.Core.Path.{_≡_};
+ghost use Rattle.basics.specs.Decides.{Decides};
 ghost use Rattle.superframe.specs.Periods.{InRange, AllInRange};
 ghost use Rattle.superframe.specs.Superframe.{superframe-of, packed};
-ghost use Rattle.superframe.specs.Inner.{IsGcd, IsLcmOfTwo, WithinLimit, IsLcmOrAbove, Decides, Packs};
+ghost use Rattle.superframe.specs.Inner.{IsGcd, IsLcmOfTwo, WithinLimit, IsLcmOrAbove, Packs};
 
 // The longest superframe that a planner takes.
 const LIMIT: u32 = 5040;

@@ -9,14 +9,14 @@ use native.Mathlib.Omega.{arith}
 use lib.ListN.{length, take, getD}
 use lib.Seq.{take-all}
 use Rattle.superframe.specs.Periods.{InRange, AllInRange}
-use Rattle.superframe.specs.Inner.{Decides}
+use Rattle.basics.specs.Decides.{Decides, decides-yes, decides-no}
 use Rattle.superframe.proofs.Prefix.{take-next, all-snoc, mem-getD}
 use Rattle.superframe.proofs.all_in_range.Statement.{statement}
 use Rattle.superframe.proofs.all_in_range.Tie as tie
 
 out-of-range : (periods : List ℕ) (i : ℕ) → i < length periods → (InRange (getD periods i 0) → ⊥) → Decides false (AllInRange periods)
 out-of-range periods i inside bad =
-    record { if-true = λ e. absurd (false≢true e); if-false = λ _ all. bad (all _ (mem-getD periods i inside)) }
+    decides-no (λ all. bad (all _ (mem-getD periods i inside)))
 
 abbrev Inv-loop : tie.InvT-loop
 Inv-loop periods i₀ i = (i ≤ length periods) × AllInRange (take i periods)

@@ -1,0 +1,5 @@
+-- Notions and facts that several crates share.
+pub mod Decides
+pub mod Refusals
+pub mod Below
+pub mod Sorted

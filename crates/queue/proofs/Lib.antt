@@ -1,0 +1,3 @@
+-- Laws that the proofs of several functions cite.
+mod Shape
+mod Refused

@@ -1,0 +1,55 @@
+-- `queue::sound::key_fits` meets its contract: every place before i leaves the key within the span.
+use Prim.Native.Nat.{ℕ, _≤_, _<_, _-_}
+use native.Mathlib.Nat.{lt-irrefl, lt-of-lt-of-le}
+use native.Mathlib.Omega.{arith}
+use borrow.Author.Count.{below-none, below-more}
+use borrow.Author.Tests.{not-true, not-false}
+use Rattle.basics.specs.Decides.{decides-yes, decides-no}
+use Rattle.queue.specs.Inner.{PlaceFits}
+use Rattle.queue.proofs.sound.key_fits.Statement.{statement}
+use Rattle.queue.proofs.sound.key_fits.Tie as tie
+
+abbrev Inv-loop : tie.InvT-loop
+Inv-loop ids keys out key i₀ i = (i ≤ 64) × ((j : ℕ) → j < i → PlaceFits ids keys out key j)
+
+abbrev μ-loop : tie.MeasureT-loop
+μ-loop ids keys out key i₀ i = 64 - i
+
+returns : tie.Need-returns Inv-loop μ-loop
+returns c = decides-no (λ fits. lt-irrefl 2_000_000_000 (lt-of-lt-of-le (c .if1 .taken) (fits .0)))
+
+loop-holds : tie.Need-loop-holds Inv-loop μ-loop
+loop-holds c = (omega arith, below-none _)
+
+place-fits-requires : tie.Need-place-fits-requires Inv-loop μ-loop
+place-fits-requires c κs = c .loop-test .taken
+
+returns-2 : tie.Need-returns-2 Inv-loop μ-loop
+returns-2 c = decides-no (λ fits. c .before .place-fits .ensures .if-false (not-true _ (c .if2 .taken)) (fits .1 (c .before .before .before .loop .i) (c .before .before .loop-test .taken)))
+
+add-i : tie.Need-add-i Inv-loop μ-loop
+add-i c = omega arith
+
+loop-less : tie.Need-loop-less Inv-loop μ-loop
+loop-less c = omega arith
+
+loop-again : tie.Need-loop-again Inv-loop μ-loop
+loop-again c = (omega arith, below-more _ _ (c .before .before .before .loop .inv .1) (c .before .place-fits .ensures .if-true (not-false _ (c .if2 .left))))
+
+returns-3 : tie.Need-returns-3 Inv-loop μ-loop
+returns-3 c = decides-yes (c .before .before .if1 .left, λ j below. c .before .loop .inv .1 j (omega arith))
+
+pub key-fits-spec : {M : Type 1} → statement M
+key-fits-spec =
+    tie.close
+    (tie.spec
+    Inv-loop
+    μ-loop
+    returns
+    loop-holds
+    place-fits-requires
+    returns-2
+    add-i
+    loop-less
+    loop-again
+    returns-3)

@@ -1,0 +1,65 @@
+-- `queue::sound::place_fits` meets its contract: the larger of the two keys is at most 479 above the other.
+use mathlib.Core.Path.{_≡_, subst}
+use Prim.Native.Nat.{ℕ, _≤_}
+use native.Mathlib.Nat.{lt-irrefl}
+use native.Mathlib.Omega.{arith}
+use Rattle.basics.specs.Decides.{decides-yes, decides-no}
+use borrow.Author.Needs.{needs}
+use Rattle.queue.proofs.sound.place_fits.Statement.{statement}
+use Rattle.queue.proofs.sound.place_fits.Tie as tie
+
+positive : (n : ℕ) → (n ≡ 0 → ⊥) → 1 ≤ n
+positive n other = omega arith
+
+returns : tie.Need-returns
+returns c = decides-yes (λ other. absurd (other (c .if1 .taken)))
+
+mul-if2 : tie.Need-mul-if2
+mul-if2 c = search needs
+
+element-copy-out-if2 : tie.Need-element-copy-out-if2
+element-copy-out-if2 c = search needs
+
+returns-2 : tie.Need-returns-2
+returns-2 c = decides-yes (λ _ some. absurd (lt-irrefl 0 (subst (λ (n : ℕ). 1 ≤ n) (c .if2 .taken) some)))
+
+mul-wide : tie.Need-mul-wide
+mul-wide c = search needs
+
+element-copy-out-wide : tie.Need-element-copy-out-wide
+element-copy-out-wide c = search needs
+
+wide-requires : tie.Need-wide-requires
+wide-requires c κs = search needs
+
+sub-if4 : tie.Need-sub-if4
+sub-if4 c = search needs
+
+returns-3 : tie.Need-returns-3
+returns-3 c = decides-no (λ fits. let w = fits (c .before .before .before .before .before .before .if1 .left) (positive _ (c .before .before .before .before .if2 .left)) in omega (arith, c .before .before .wide .ensures, c .if4 .taken, c .before .if3 .taken))
+
+returns-4 : tie.Need-returns-4
+returns-4 c = decides-yes (λ _ _. (omega (arith, c .before .before .wide .ensures, c .if4 .left, c .before .if3 .taken), omega (arith, c .before .before .wide .ensures, c .before .if3 .taken)))
+
+returns-5 : tie.Need-returns-5
+returns-5 c = decides-no (λ fits. let w = fits (c .before .before .before .before .before .before .if1 .left) (positive _ (c .before .before .before .before .if2 .left)) in omega (arith, c .before .before .wide .ensures, c .if5 .taken, c .before .if3 .left))
+
+returns-6 : tie.Need-returns-6
+returns-6 c = decides-yes (λ _ _. (omega (arith, c .before .before .wide .ensures, c .before .if3 .left), omega (arith, c .before .before .wide .ensures, c .if5 .left, c .before .if3 .left)))
+
+pub place-fits-spec : {M : Type 1} → statement M
+place-fits-spec =
+    tie.close
+    (tie.spec
+    returns
+    mul-if2
+    element-copy-out-if2
+    returns-2
+    mul-wide
+    element-copy-out-wide
+    wide-requires
+    sub-if4
+    returns-3
+    returns-4
+    returns-5
+    returns-6)

@@ -1,0 +1,46 @@
+-- `queue::soundness::places_are_sound` meets its contract: each test refuses for one condition, and the last decides the span.
+use Rattle.basics.specs.Decides.{decides-no, failed, passed}
+use Rattle.queue.specs.Layout.SoundnessFacts.{places-range, places-new, places-keys, places-last}
+use borrow.Author.Needs.{needs}
+use Rattle.queue.proofs.soundness.places_are_sound.Statement.{statement}
+use Rattle.queue.proofs.soundness.places_are_sound.Tie as tie
+
+ids-in-range-requires : tie.Need-ids-in-range-requires
+ids-in-range-requires c κs = search needs
+
+returns : tie.Need-returns
+returns c = decides-no (λ s. failed (c .before .ids-in-range .ensures) (c .if1 .taken) (places-range s))
+
+ids-differ-requires : tie.Need-ids-differ-requires
+ids-differ-requires c κs = search needs
+
+returns-2 : tie.Need-returns-2
+returns-2 c = decides-no (λ s. failed (c .before .ids-differ .ensures) (c .if2 .taken) (places-new s))
+
+keys-are-within-requires : tie.Need-keys-are-within-requires
+keys-are-within-requires c κs = search needs
+
+returns-3 : tie.Need-returns-3
+returns-3 c = decides-no (λ s. failed (c .before .keys-are-within .ensures) (c .if3 .taken) (places-keys s))
+
+span-is-short-requires : tie.Need-span-is-short-requires
+span-is-short-requires c κs = passed (c .before .keys-are-within .ensures) (c .if3 .left)
+
+returns-4 : tie.Need-returns-4
+returns-4 c =
+    places-last (passed (c .before .before .before .before .before .before .ids-in-range .ensures) (c .before .before .before .before .before .if1 .left))
+    (passed (c .before .before .before .before .ids-differ .ensures) (c .before .before .before .if2 .left))
+    (passed (c .before .before .keys-are-within .ensures) (c .before .if3 .left)) (c .span-is-short .ensures)
+
+pub places-are-sound-spec : {M : Type 1} → statement M
+places-are-sound-spec =
+    tie.close
+    (tie.spec
+    ids-in-range-requires
+    returns
+    ids-differ-requires
+    returns-2
+    keys-are-within-requires
+    returns-3
+    span-is-short-requires
+    returns-4)

@@ -1,0 +1,111 @@
+-- Laws of the order of entries and of lists in order.
+use mathlib.Core.Path.{_≡_, refl, sym, ap, subst⁻¹}
+use mathlib.Core.Logic.{inl, inr, _∨₁_, Or·elim, ite}
+use mathlib.Core.HLevel.{hedberg, ×-prop}
+use mathlib.Core.List.{List, [], _∷_, List·Mem, Pairwise, Pairwise·cons, pairwise-cons, Perm, Perm·refl, Perm·cons, Perm·swap, Perm·trans, Perm·mem-iff, mem-cons-self, mem-cons-of-mem, not-mem-nil, eq-or-mem-of-mem-cons}
+use Prim.Native.Nat.{suc, _<_}
+use native.Mathlib.Bridge.{le-prop}
+use native.Mathlib.Nat.{lt-irrefl}
+use native.Mathlib.Decide.{decLt, ℕ-discrete}
+use native.Mathlib.Omega.{arith}
+use lib.ListN.{length}
+use Rattle.queue.specs.Order.{Entry, Before, before}
+use Rattle.queue.specs.Entries.{put}
+use Rattle.basics.specs.Sorted.{sorted-unique}
+
+pub entry-path : (a b : Entry) → a .key ≡ b .key → a .id ≡ b .id → a ≡ b
+entry-path a b key id = λ i. record { key = key i; id = id i }
+
+pub entry-discrete : Discrete Entry
+entry-discrete a b = go (ℕ-discrete (a .key) (b .key)) (ℕ-discrete (a .id) (b .id))
+  where
+    go : Dec (a .key ≡ b .key) → Dec (a .id ≡ b .id) → Dec (a ≡ b)
+    go (no key) id = no (λ e. key (ap (λ (x : Entry). x .key) e))
+    go (yes key) (no id) = no (λ e. id (ap (λ (x : Entry). x .id) e))
+    go (yes key) (yes id) = yes (entry-path a b key id)
+
+pub entry-set : IsSet Entry
+entry-set = hedberg entry-discrete
+
+-- the order is strict and total
+pub before-asym : (a b : Entry) → Before a b → Before b a → ⊥
+before-asym a b (inl l) (inl m) = omega arith
+before-asym a b (inl l) (inr m) = omega (arith, m .0)
+before-asym a b (inr l) (inl m) = omega (arith, l .0)
+before-asym a b (inr l) (inr m) = omega (arith, l .1, m .1)
+
+pub before-trans : (a b c : Entry) → Before a b → Before b c → Before a c
+before-trans a b c (inl l) (inl m) = inl (omega arith)
+before-trans a b c (inl l) (inr m) = inl (omega (arith, m .0))
+before-trans a b c (inr l) (inl m) = inl (omega (arith, l .0))
+before-trans a b c (inr l) (inr m) = inr (omega (arith, l .0, m .0), omega (arith, l .1, m .1))
+
+pub before-total : (a b : Entry) → (a ≡ b → ⊥) → (Before a b → ⊥) → Before b a
+before-total a b differ not-before = go (decLt (b .key) (a .key)) (decLt (b .id) (a .id)) (ℕ-discrete (a .key) (b .key)) (ℕ-discrete (a .id) (b .id))
+  where
+    go : Dec (b .key < a .key) → Dec (b .id < a .id) → Dec (a .key ≡ b .key) → Dec (a .id ≡ b .id) → Before b a
+    go (yes less) id key same = inl less
+    go (no not-less) id (no key) same = absurd (not-before (inl (omega arith)))
+    go (no not-less) (yes id) (yes key) same = inr (sym key, id)
+    go (no not-less) (no id) (yes key) (yes same) = absurd (differ (entry-path a b key same))
+    go (no not-less) (no id) (yes key) (no same) = absurd (not-before (inr (key, omega arith)))
+
+abbrev pub InOrder : List Entry → Type 0
+InOrder = Pairwise Before
+
+put-perm : (e : Entry) (es : List Entry) → Perm (put e es) (e ∷ es)
+unfolding put
+put-perm e [] = Perm·refl (e ∷ [])
+put-perm e (x ∷ xs) = go (before e x) (put-perm e xs)
+  where
+    go : (d : Dec (Before e x)) → Perm (put e xs) (e ∷ xs) → Perm (ite d (e ∷ x ∷ xs) (x ∷ put e xs)) (e ∷ x ∷ xs)
+    go (yes first) below = Perm·refl (e ∷ x ∷ xs)
+    go (no later) below = Perm·trans (Perm·cons x below) (Perm·swap e x xs)
+
+pub in-put : (e : Entry) (es : List Entry) (a : Entry) → List·Mem a (put e es) → (a ≡ e) ∨₁ List·Mem a es
+in-put e es a m = eq-or-mem-of-mem-cons (Perm·mem-iff (put-perm e es) .0 m)
+
+pub put-new : (e : Entry) (es : List Entry) → List·Mem e (put e es)
+put-new e es = Perm·mem-iff (put-perm e es) .1 mem-cons-self
+
+pub put-old : (e : Entry) (es : List Entry) (a : Entry) → List·Mem a es → List·Mem a (put e es)
+put-old e es a m = Perm·mem-iff (put-perm e es) .1 (mem-cons-of-mem e m)
+
+pub put-length : (e : Entry) (es : List Entry) → length (put e es) ≡ suc (length es)
+unfolding put
+put-length e [] = refl
+put-length e (x ∷ xs) = go (before e x) (put-length e xs)
+  where
+    go : (d : Dec (Before e x)) → length (put e xs) ≡ suc (length xs) → length (ite d (e ∷ x ∷ xs) (x ∷ put e xs)) ≡ suc (suc (length xs))
+    go (yes first) below = refl
+    go (no later) below = ap suc below
+
+pub before-prop : (a b : Entry) → IsProp (Before a b)
+before-prop a b (inl l) (inl m) = ap inl (le-prop l m)
+before-prop a b (inl l) (inr m) = absurd (lt-irrefl (a .key) (omega (arith, m .0)))
+before-prop a b (inr l) (inl m) = absurd (lt-irrefl (a .key) (omega (arith, l .0)))
+before-prop a b (inr l) (inr m) = ap inr (×-prop (hedberg ℕ-discrete (a .key) (b .key)) le-prop l m)
+
+-- an entry that is not there yet is put in order
+pub put-in-order : (e : Entry) (es : List Entry) → InOrder es → ((x : Entry) → List·Mem x es → x ≡ e → ⊥) → InOrder (put e es)
+unfolding put
+put-in-order e [] sorted new = Pairwise·cons (λ x m. absurd (not-mem-nil m)) sorted
+put-in-order e (x ∷ xs) sorted new = go (before e x) (put-in-order e xs (pairwise-cons .0 sorted .1) (λ y m. new y (mem-cons-of-mem x m)))
+  where
+    later : (y : Entry) → List·Mem y xs → Before x y
+    later = pairwise-cons .0 sorted .0
+
+    go : (d : Dec (Before e x)) → InOrder (put e xs) → InOrder (ite d (e ∷ x ∷ xs) (x ∷ put e xs))
+    go (yes first) below =
+        Pairwise·cons {a = e}
+        (λ y m. Or·elim (before-prop e y) (eq-or-mem-of-mem-cons m) (λ same. subst⁻¹ (λ (z : Entry). Before e z) same first) (λ m′. before-trans e x y first (later y m′)))
+        sorted
+    go (no not-first) below =
+        Pairwise·cons {a = x}
+        (λ y m. Or·elim (before-prop x y) (in-put e xs y m)
+        (λ same. subst⁻¹ (λ (z : Entry). Before x z) same (before-total e x (λ eq. new x mem-cons-self (sym eq)) not-first)) (λ m′. later y m′))
+        below
+
+-- lists in order with the same entries are equal
+pub in-order-unique : (xs ys : List Entry) → InOrder xs → InOrder ys → ((a : Entry) → List·Mem a xs → List·Mem a ys) → ((a : Entry) → List·Mem a ys → List·Mem a xs) → xs ≡ ys
+in-order-unique = sorted-unique entry-set Before before-asym

@@ -1,0 +1,89 @@
+-- How a queue's entries lie in its places and links, and when that is sound. The modules below this one can open these definitions;
+-- nobody else can.
+pub mod LinkFacts
+pub mod LinkChange
+pub mod Collected
+pub mod Decide
+pub mod SoundFacts
+pub mod SoundnessFacts
+pub mod Walk
+pub mod Change
+pub mod Buckets
+pub mod Answers
+pub mod First
+pub mod Heads
+pub mod Laws
+use mathlib.Core.Path.{_≡_}
+use mathlib.Core.Logic.{_⊎_, ite}
+use mathlib.Core.List.{List, []}
+use Prim.Native.Nat.{ℕ, zero, suc, _+_, _-_, _%_, _≤_, _<_}
+use native.Mathlib.Decide.{decLe, decLt}
+use lib.ListN.{getD}
+use Rattle.queue.specs.Order.{Entry}
+use Rattle.queue.specs.Entries.{put}
+use Rattle.queue.specs.declared.Queue.{Queue}
+
+-- The id and the key at a place, and the links of a node.
+abbrev pub id-at : Queue → ℕ → ℕ
+id-at q i = getD (q .ids) i 0
+
+abbrev pub key-at : Queue → ℕ → ℕ
+key-at q i = getD (q .keys) i 0
+
+abbrev pub next-at : Queue → ℕ → ℕ
+next-at q x = getD (q .next) x 0
+
+abbrev pub prev-at : Queue → ℕ → ℕ
+prev-at q x = getD (q .prev) x 0
+
+abbrev pub entry-at : Queue → ℕ → Entry
+entry-at q i = record { key = key-at q i; id = id-at q i }
+
+-- A place holds an entry unless its id is 0.
+abbrev pub Holds : Queue → ℕ → Type 0
+Holds q i = (i < 64) × (1 ≤ id-at q i)
+
+-- The entries in the first n places, in order.
+pub collected : (ids keys : ℕ → ℕ) → ℕ → List Entry
+collected ids keys zero = []
+collected ids keys (suc i) = ite (decLe 1 (ids i)) (put (record { key = keys i; id = ids i }) (collected ids keys i)) (collected ids keys i)
+
+-- A queue's entries, sorted by key, then id.
+pub entries : Queue → List Entry
+entries q = collected (id-at q) (key-at q) 64
+
+-- A node is a place that holds an entry, or the head of a bucket: node 64 + b for bucket b.
+abbrev pub IsNode : (ids : ℕ → ℕ) → ℕ → Type 0
+IsNode ids x = ((x < 64) × (1 ≤ ids x)) ⊎ ((64 ≤ x) × (x < 544))
+
+-- The bucket of a node: an entry's key modulo 480, a head's own.
+pub bucket-of : (keys : ℕ → ℕ) → ℕ → ℕ
+bucket-of keys x = ite (decLt x 64) (keys x % 480) (x - 64)
+
+-- Ids rise along a list from its head, which counts as 0 where the list leaves it and as 32,768 where the list comes back to it.
+pub low : (ids : ℕ → ℕ) → ℕ → ℕ
+low ids x = ite (decLt x 64) (ids x) 0
+
+pub high : (ids : ℕ → ℕ) → ℕ → ℕ
+high ids x = ite (decLt x 64) (ids x) 32768
+
+-- 01: "in its key's bucket and in order, every link matched by its return link", said of one node.
+pub record Linked (ids keys next prev : ℕ → ℕ) (x : ℕ) : Type 0 where
+  next-is-node : IsNode ids (next x)
+  next-in-bucket : bucket-of keys (next x) ≡ bucket-of keys x
+  next-returns : prev (next x) ≡ x
+  in-order : low ids x < high ids (next x)
+  prev-is-node : IsNode ids (prev x)
+  prev-returns : next (prev x) ≡ x
+
+abbrev pub AllLinked : (ids keys next prev : ℕ → ℕ) → Type 0
+AllLinked ids keys next prev = (x : ℕ) → IsNode ids x → Linked ids keys next prev x
+
+-- 01: "Links are sound if at most 64 ids are filed, each 1 to 32,767 and once only, in its key's bucket and in order, every link matched by
+-- its return link, and no key or span is beyond the bounds of 23." There are 64 places, so no more than 64 ids can be filed.
+pub record Sound (q : Queue) : Type 0 where
+  ids-in-range : (i : ℕ) → Holds q i → id-at q i ≤ 32767
+  once : (i j : ℕ) → Holds q i → Holds q j → id-at q i ≡ id-at q j → i ≡ j
+  keys-in-range : (i : ℕ) → Holds q i → key-at q i ≤ 2_000_000_000
+  span : (i j : ℕ) → Holds q i → Holds q j → key-at q i ≤ key-at q j + 479
+  links : AllLinked (id-at q) (key-at q) (next-at q) (prev-at q)

@@ -1,0 +1,136 @@
+-- When each refusal applies, from what the code's tests find.
+use mathlib.Core.Path.{_≡_, sym, ap, subst, subst⁻¹, _∙_}
+use mathlib.Core.Logic.{Or·elim, ∥∥₁-elim, ∥∥₁-map, Dec·not}
+use mathlib.Core.HLevel.{⊥-prop, ×-prop}
+use mathlib.Core.List.{List, List·Mem, mem-filter}
+use Prim.Native.Nat.{ℕ, _+_, _≤_, _<_}
+use native.Mathlib.Bridge.{le-prop}
+use native.Mathlib.Nat.{lt-irrefl}
+use native.Mathlib.Decide.{ℕ-discrete}
+use native.Mathlib.Omega.{arith}
+use lib.ListN.{length}
+use Rattle.queue.specs.Order.{Entry}
+use Rattle.queue.specs.Entries.{put, without, key-of, Filed, InBounds}
+use Rattle.queue.specs.Layout.{id-at, key-at, entry-at, Holds, entries, Sound}
+use Rattle.queue.specs.Calls.{inserted, moved}
+use Rattle.queue.specs.Layout.Collected.{of-collected, in-collected, collected-room, collected-full}
+use Rattle.queue.specs.EntryFacts.{in-put, put-new, put-old}
+use Rattle.queue.specs.Layout.SoundFacts.{sound-in-bounds, fewer-in-bounds, in-without}
+use Rattle.queue.specs.Inner.{IsPlaceOf, KeyFits}
+use Rattle.queue.specs.declared.Queue.{Queue}
+use Rattle.queue.specs.Layout.Change.{place-filed, filed-place, key-of-place}
+
+positive : (n : ℕ) → (n ≡ 0 → ⊥) → 1 ≤ n
+positive n other = omega arith
+
+-- 21: no place is free
+pub full-if : (q : Queue) (x : ℕ) → IsPlaceOf (q .ids) 0 x → x ≡ 64 → 64 ≤ length (entries q)
+unfolding entries
+full-if q x place none = omega (arith, collected-full (id-at q) (key-at q) 64 (λ i below. positive (id-at q i) (place .absent none i below)))
+
+pub room-if : (q : Queue) (x : ℕ) → IsPlaceOf (q .ids) 0 x → (x ≡ 64 → ⊥) → length (entries q) < 64
+unfolding entries
+room-if q x place some =
+    let inside : x < 64 = omega (arith, place .within) in
+    collected-room (id-at q) (key-at q) 64 x inside (place .found inside)
+
+-- 22 and 24: a place has the id
+pub filed-if : (q : Queue) (id x : ℕ) → 1 ≤ id → IsPlaceOf (q .ids) id x → (x ≡ 64 → ⊥) → Filed id (entries q)
+filed-if q id x some place found =
+    let inside : x < 64 = omega (arith, place .within) in
+    let here = place .found inside in
+    subst (λ (n : ℕ). Filed n (entries q)) here (place-filed q x (inside, rw here some))
+
+pub not-filed-if : (q : Queue) (id x : ℕ) → IsPlaceOf (q .ids) id x → x ≡ 64 → Filed id (entries q) → ⊥
+not-filed-if q id x place none filed = lt-irrefl 64 (omega (arith, filed-place q id x filed place .0 .0))
+
+-- 23: the bounds of the entries with one more are those of its key beside the others
+module _ (q : Queue) (out key id : ℕ) (es : List Entry) (bounds : InBounds es)
+    (inside : (e : Entry) → List·Mem e es → ∥ ((i : ℕ) × (i < 64) × (i ≡ out → ⊥) × (1 ≤ id-at q i) × (e ≡ entry-at q i)) ∥₁)
+    (all : (i : ℕ) → i < 64 → (i ≡ out → ⊥) → 1 ≤ id-at q i → List·Mem (entry-at q i) es) where
+  new : Entry
+  new = record { key = key; id = id }
+
+  beside : KeyFits (q .ids) (q .keys) out key → (e : Entry) → List·Mem e es → (key ≤ e .key + 479) × (e .key ≤ key + 479)
+  beside fits e m =
+      ∥∥₁-elim (inside e m) (×-prop le-prop le-prop)
+      (λ w. subst⁻¹ (λ (f : Entry). (key ≤ f .key + 479) × (f .key ≤ key + 479)) (w .4) (fits .1 (w .0) (w .1) (w .2) (w .3)))
+
+  pub fits-in-bounds : KeyFits (q .ids) (q .keys) out key → InBounds (put (record { key = key; id = id }) es)
+  unfolding new
+  fits-in-bounds fits =
+      record {
+        keys = λ e m. Or·elim le-prop (in-put new es e m) (λ same. rw same (fits .0)) (bounds .keys e);
+        span = λ d e md me.
+            Or·elim le-prop (in-put new es d md)
+            (λ d-new. Or·elim le-prop (in-put new es e me) (λ e-new. rw (d-new, e-new) (omega arith)) (λ e-old. rw d-new (beside fits e e-old .0)))
+            (λ d-old. Or·elim le-prop (in-put new es e me) (λ e-new. rw e-new (beside fits d d-old .1)) (λ e-old. bounds .span d e d-old e-old));
+      }
+
+  pub in-bounds-fits : InBounds (put (record { key = key; id = id }) es) → KeyFits (q .ids) (q .keys) out key
+  unfolding new
+  in-bounds-fits within = (
+    within .keys new (put-new new es),
+    λ i below other some.
+        let there = put-old new es (entry-at q i) (all i below other some) in
+        (within .span new (entry-at q i) (put-new new es) there, within .span (entry-at q i) new there (put-new new es)),
+  )
+
+module _ (q : Queue) (sound : Sound q) where
+  of-entries : (e : Entry) → List·Mem e (entries q) → ∥ ((i : ℕ) × (i < 64) × (i ≡ 64 → ⊥) × (1 ≤ id-at q i) × (e ≡ entry-at q i)) ∥₁
+  unfolding entries
+  of-entries e m = ∥∥₁-map (of-collected (id-at q) (key-at q) 64 e m) (λ w. (w .0, w .1, (λ same. lt-irrefl 64 (omega (arith, w .1))), w .2, w .3))
+
+  all-entries : (i : ℕ) → i < 64 → 1 ≤ id-at q i → List·Mem (entry-at q i) (entries q)
+  unfolding entries
+  all-entries i below some = in-collected (id-at q) (key-at q) 64 i below some
+
+  pub insert-bounds : (id key : ℕ) → KeyFits (q .ids) (q .keys) 64 key → InBounds (inserted id key (entries q))
+  insert-bounds id key = fits-in-bounds q 64 key id (entries q) (sound-in-bounds q sound) of-entries (λ i below _. all-entries i below)
+
+  pub insert-fits : (id key : ℕ) → InBounds (inserted id key (entries q)) → KeyFits (q .ids) (q .keys) 64 key
+  insert-fits id key = in-bounds-fits q 64 key id (entries q) (sound-in-bounds q sound) of-entries (λ i below _. all-entries i below)
+
+  module _ (id x : ℕ) (holds : Holds q x) (has : id-at q x ≡ id) where
+    of-rest : (e : Entry) → List·Mem e (without id (entries q)) → ∥ ((i : ℕ) × (i < 64) × (i ≡ x → ⊥) × (1 ≤ id-at q i) × (e ≡ entry-at q i)) ∥₁
+    unfolding without
+    of-rest e m =
+        let w = mem-filter (λ (d : Entry). Dec·not (ℕ-discrete (d .id) id)) {l = entries q} .0 m in
+        ∥∥₁-map (of-entries e (w .0)) (λ v. (v .0, v .1, (λ same. w .1 (ap (λ (d : Entry). d .id) (v .4) ∙ (ap (id-at q) same ∙ has))), v .3, v .4))
+
+    all-rest : (i : ℕ) → i < 64 → (i ≡ x → ⊥) → 1 ≤ id-at q i → List·Mem (entry-at q i) (without id (entries q))
+    unfolding without
+    all-rest i below other some =
+        mem-filter (λ (d : Entry). Dec·not (ℕ-discrete (d .id) id)) .1
+        (all-entries i below some, λ same. other (sound .once i x (below, some) holds (same ∙ sym has)))
+
+    rest-bounds : InBounds (without id (entries q))
+    rest-bounds = fewer-in-bounds (entries q) (without id (entries q)) (in-without id (entries q)) (sound-in-bounds q sound)
+
+    pub move-bounds : (key : ℕ) → KeyFits (q .ids) (q .keys) x key → InBounds (put (record { key = key; id = id }) (without id (entries q)))
+    move-bounds key = fits-in-bounds q x key id (without id (entries q)) rest-bounds of-rest all-rest
+
+    pub move-key-fits : (key : ℕ) → InBounds (put (record { key = key; id = id }) (without id (entries q))) → KeyFits (q .ids) (q .keys) x key
+    move-key-fits key = in-bounds-fits q x key id (without id (entries q)) rest-bounds of-rest all-rest
+
+-- id 0 is never filed
+pub zero-not-filed : (q : Queue) (id : ℕ) → id < 1 → Filed id (entries q) → ⊥
+unfolding entries
+zero-not-filed q id zero filed =
+    ∥∥₁-elim filed ⊥-prop
+    (λ w. ∥∥₁-elim (of-collected (id-at q) (key-at q) 64 (w .0) (w .1)) ⊥-prop (λ v. lt-irrefl 0 (omega (arith, v .2, ap (λ (e : Entry). e .id) (v .3), w .2))))
+
+-- 23 of a move, on the key at the id's place
+module _ (q : Queue) (sound : Sound q) (id x amount : ℕ) (filed : Filed id (entries q)) (place : IsPlaceOf (q .ids) id x) where
+  key-there : key-of id (entries q) ≡ key-at q x
+  key-there = key-of-place q sound id x (filed-place q id x filed place .0) (filed-place q id x filed place .1)
+
+  pub moved-bounds : KeyFits (q .ids) (q .keys) x (key-at q x + amount) → InBounds (moved id amount (entries q))
+  moved-bounds fits =
+      let here = filed-place q id x filed place in
+      rw key-there (move-bounds q sound id x (here .0) (here .1) (key-at q x + amount) fits)
+
+  pub moved-fits : InBounds (moved id amount (entries q)) → KeyFits (q .ids) (q .keys) x (key-at q x + amount)
+  moved-fits within =
+      let here = filed-place q id x filed place in
+      move-key-fits q sound id x (here .0) (here .1) (key-at q x + amount) (rw key-there at within)

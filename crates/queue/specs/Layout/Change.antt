@@ -1,0 +1,152 @@
+-- The changes of a sound queue, from the places and the position that the code finds.
+use mathlib.Core.Path.{_≡_, refl, sym, ap, subst, subst⁻¹, _∙_}
+use mathlib.Core.Logic.{inl, Or·elim, ite, ∥∥₁-elim, Dec·not}
+use mathlib.Core.HLevel.{⊥-prop, ×-prop, hedberg}
+use mathlib.Core.List.{List, [], _∷_, List·Mem, mem-filter, not-mem-nil, mem-cons-self, mem-cons-of-mem, eq-or-mem-of-mem-cons}
+use Prim.Native.Nat.{ℕ, _+_, _≤_, _<_}
+use native.Mathlib.Bridge.{le-prop}
+use native.Mathlib.Nat.{lt-irrefl}
+use native.Mathlib.Decide.{decLt, ℕ-discrete}
+use native.Mathlib.Omega.{arith}
+use lib.Seq.{getD-set-same}
+use Rattle.queue.specs.Order.{Entry}
+use Rattle.queue.specs.Entries.{put, without, key-of, Filed}
+use Rattle.queue.specs.Layout.{id-at, key-at, next-at, prev-at, Holds, entries, Sound}
+use Rattle.queue.specs.Calls.{inserted, moved}
+use Rattle.queue.specs.Layout.Collected.{entry, of-collected, in-collected, collected-room, collected-full}
+use Rattle.queue.specs.EntryFacts.{put-new, entry-set}
+use Rattle.queue.specs.Layout.SoundFacts.{HasShape, put-entries, put-sound, taken-entries, taken-sound, node-below, sound-once}
+use Rattle.queue.specs.Inner.{IsPlaceOf, IsPosition, IsNew, CanPut, put-before, CanTake, taken-out, HasEntries, CanInsert, CanMove}
+use Rattle.queue.specs.declared.Queue.{Queue}
+
+-- an id at a place is filed
+pub place-filed : (q : Queue) (i : ℕ) → Holds q i → Filed (id-at q i) (entries q)
+unfolding entries
+place-filed q i holds = ∣ (entry (id-at q) (key-at q) i, in-collected (id-at q) (key-at q) 64 i (holds .0) (holds .1), refl) ∣₁
+
+-- a filed id is 1 or more and has a place
+pub filed-place : (q : Queue) (id x : ℕ) → Filed id (entries q) → IsPlaceOf (q .ids) id x → Holds q x × (id-at q x ≡ id)
+unfolding entries
+filed-place q id x filed place =
+    ∥∥₁-elim filed (×-prop (×-prop le-prop le-prop) (hedberg ℕ-discrete (id-at q x) id))
+    (λ w. ∥∥₁-elim (of-collected (id-at q) (key-at q) 64 (w .0) (w .1)) (×-prop (×-prop le-prop le-prop) (hedberg ℕ-discrete (id-at q x) id))
+    (λ v. let there : id-at q (v .0) ≡ id = sym (ap (λ (e : Entry). e .id) (v .3)) ∙ w .2 in
+    go (v .0) (v .1) (rw there at (v .2)) there (decLt x 64)))
+  where
+    go : (i : ℕ) → i < 64 → 1 ≤ id → id-at q i ≡ id → Dec (x < 64) → Holds q x × (id-at q x ≡ id)
+    go i below some there (yes inside) = let e = place .found inside in ((inside, rw e some), e)
+    go i below some there (no outside) = absurd (place .absent (omega (arith, place .within)) i below there)
+
+module _ (q : Queue) (id key : ℕ) (can : CanInsert q id key) where
+  pub insert-new : IsNew q id
+  insert-new =
+      record {
+        some = can .some;
+        small = can .small;
+        unused = λ i below same. can .new (subst (λ (n : ℕ). Filed n (entries q)) same (place-filed q i (below, rw same (can .some))));
+      }
+
+  -- with fewer than 64 entries some place is free
+  pub insert-place : (x : ℕ) → IsPlaceOf (q .ids) 0 x → x < 64
+  unfolding entries
+  insert-place x place = go (decLt x 64)
+    where
+      go : Dec (x < 64) → x < 64
+      go (yes inside) = inside
+      go (no outside) =
+          let none = place .absent (omega (arith, place .within)) in
+          absurd (lt-irrefl 64 (omega (arith, collected-full (id-at q) (key-at q) 64 (λ i below. positive (id-at q i) (none i below)), can .room)))
+        where
+          positive : (n : ℕ) → (n ≡ 0 → ⊥) → 1 ≤ n
+          positive n other = omega arith
+
+  pub insert-can-put : (x n : ℕ) → IsPlaceOf (q .ids) 0 x → IsPosition q key id n → CanPut q x n
+  insert-can-put x n place position =
+      (insert-place x place, node-below (id-at q) n (position .node), node-below (id-at q) (prev-at q n) (can .sound .links n (position .node) .prev-is-node))
+
+  pub insert-entries : HasShape q → (x n : ℕ) → IsPlaceOf (q .ids) 0 x → IsPosition q key id n → HasEntries (put-before q x id key n) (inserted id key (entries q))
+  insert-entries shape x n place position =
+      let inside = insert-place x place in
+      let free = place .found inside in
+      let new = insert-new in
+      record {
+        sound =
+            put-sound q (can .sound) shape x id key n inside free (can .some) (can .small) (new .unused) (position .node) (position .bucket) (position .above) (position .below) (can .bounds);
+        content = put-entries q (can .sound) shape x id key n inside free (can .some) (can .small) (new .unused) (position .node) (position .bucket) (position .above) (position .below);
+      }
+
+module _ (q : Queue) (id x : ℕ) (sound : Sound q) (filed : Filed id (entries q)) (place : IsPlaceOf (q .ids) id x) where
+  at-place : Holds q x × (id-at q x ≡ id)
+  at-place = filed-place q id x filed place
+
+  pub delete-can-take : CanTake q x
+  delete-can-take =
+      let l = sound .links x (inl (at-place .0)) in
+      (at-place .0 .0, node-below (id-at q) (next-at q x) (l .next-is-node), node-below (id-at q) (prev-at q x) (l .prev-is-node))
+
+  pub delete-entries : HasShape q → HasEntries (taken-out q x) (without id (entries q))
+  delete-entries shape =
+      record {
+        sound = taken-sound q sound shape x (at-place .0);
+        content = taken-entries q sound shape x (at-place .0) ∙ ap (λ (n : ℕ). without n (entries q)) (at-place .1);
+      }
+
+-- the key of an id is that of the one entry that has it
+pub key-of-entry : (id : ℕ) (es : List Entry) (e : Entry) → List·Mem e es → e .id ≡ id → ((d : Entry) → List·Mem d es → d .id ≡ id → d ≡ e) → key-of id es ≡ e .key
+unfolding key-of
+key-of-entry id [] e m same only = absurd (not-mem-nil m)
+key-of-entry id (x ∷ xs) e m same only = go (ℕ-discrete (x .id) id) (λ m′. key-of-entry id xs e m′ same (λ d md. only d (mem-cons-of-mem x md)))
+  where
+    go : (d : Dec (x .id ≡ id)) → (List·Mem e xs → key-of id xs ≡ e .key) → ite d (x .key) (key-of id xs) ≡ e .key
+    go (yes here) below = ap (λ (d : Entry). d .key) (only x mem-cons-self here)
+    go (no other) below =
+        Or·elim (hedberg ℕ-discrete (key-of id xs) (e .key)) (eq-or-mem-of-mem-cons m) (λ first. absurd (other (sym (ap (λ (d : Entry). d .id) first) ∙ same))) below
+
+-- the key found at an id's place is the id's key
+pub key-of-place : (q : Queue) → Sound q → (id x : ℕ) → Holds q x → id-at q x ≡ id → key-of id (entries q) ≡ key-at q x
+unfolding entries
+key-of-place q sound id x there has =
+    key-of-entry id (entries q) (entry (id-at q) (key-at q) x) (in-collected (id-at q) (key-at q) 64 x (there .0) (there .1)) has
+    (λ d m same. ∥∥₁-elim (of-collected (id-at q) (key-at q) 64 d m) (entry-set d (entry (id-at q) (key-at q) x))
+    (λ w. w .3 ∙ ap (entry (id-at q) (key-at q)) (sound-once q sound (w .0) x (w .1) (there .0) (w .2) (sym (ap (λ (e : Entry). e .id) (w .3)) ∙ (same ∙ sym has)))))
+
+module _ (q : Queue) (id amount x : ℕ) (can : CanMove q id amount) (place : IsPlaceOf (q .ids) id x) (shape : HasShape q) where
+  holds : Holds q x × (id-at q x ≡ id)
+  holds = filed-place q id x (can .filed) place
+
+  pub move-place : x < 64
+  move-place = holds .0 .0
+
+  pub move-key : key-of id (entries q) ≡ key-at q x
+  move-key = key-of-place q (can .sound) id x (holds .0) (holds .1)
+
+  rest : HasEntries (taken-out q x) (without id (entries q))
+  rest = delete-entries q id x (can .sound) (can .filed) place shape
+
+  pub move-fits : key-at q x + amount ≤ 2_000_000_000
+  move-fits =
+      rw move-key at
+      (can .bounds .keys (record { key = key-of id (entries q) + amount; id = id }) (put-new (record { key = key-of id (entries q) + amount; id = id }) (without id (entries q))))
+
+  pub move-can-insert : (r : Queue) → r ≡ taken-out q x → CanInsert r id (key-at q x + amount)
+  unfolding entries without
+  move-can-insert r is =
+      subst⁻¹ (λ (p : Queue). CanInsert p id (key-at q x + amount)) is
+      (record {
+        sound = rest .sound;
+        some = rw (holds .1) at (holds .0 .1);
+        small = rw (holds .1) at (can .sound .ids-in-range x (holds .0));
+        room = collected-room (id-at (taken-out q x)) (key-at (taken-out q x)) 64 x (holds .0 .0) (getD-set-same (q .ids) x 0 0 (omega (arith, shape .ids, holds .0 .0)));
+        new = λ filed. ∥∥₁-elim filed ⊥-prop
+            (λ w. mem-filter (λ (e : Entry). Dec·not (ℕ-discrete (e .id) id)) {l = entries q} .0 (subst (λ (l : List Entry). List·Mem (w .0) l) (rest .content) (w .1)) .1 (w .2));
+        bounds = rw (rest .content, ← move-key) (can .bounds);
+      })
+
+  pub move-entries : (r s : Queue) → r ≡ taken-out q x → HasEntries s (inserted id (key-at q x + amount) (entries r)) → HasEntries s (moved id amount (entries q))
+  move-entries r s is done =
+      record {
+        sound = done .sound;
+        content = done .content
+            ∙ (ap (λ (p : Queue). inserted id (key-at q x + amount) (entries p)) is
+            ∙ (ap (inserted id (key-at q x + amount)) (rest .content) ∙ ap (λ (k : ℕ). put (record { key = k + amount; id = id }) (without id (entries q))) (sym move-key)));
+      }

@@ -1,0 +1,82 @@
+-- A queue with nothing filed: its heads are their own neighbours.
+use mathlib.Core.Path.{_≡_, refl, ap, subst⁻¹, _∙_}
+use mathlib.Core.Logic.{inl, inr}
+use mathlib.Core.List.{List, []}
+use Prim.Native.Nat.{ℕ, zero, suc, _+_, _≤_, _<_}
+use native.Mathlib.Nat.{lt-irrefl}
+use native.Mathlib.Decide.{decLt}
+use native.Mathlib.Omega.{arith}
+use lib.ListN.{length, getD, set, replicate, length-set, getD-replicate}
+use lib.Seq.{getD-set-same, getD-set-other}
+use Rattle.queue.specs.Layout.{id-at, key-at, next-at, prev-at, Holds, collected, entries, IsNode, bucket-of, low, high, Linked}
+use Rattle.queue.specs.Layout.LinkFacts.{low-head, high-head}
+use Rattle.queue.specs.Layout.Collected.{collected-none}
+use Rattle.queue.specs.Inner.{HasEntries}
+use Rattle.queue.specs.declared.Queue.{Queue}
+
+-- the heads from 64 to x link to themselves
+pub record HeadsAlone (links : List ℕ) (x : ℕ) : Type 0 where
+  pub from : 64 ≤ x
+  pub within : x ≤ 544
+  pub size : length links ≡ 544
+  pub alone : (j : ℕ) → 64 ≤ j → j < x → getD links j 0 ≡ j
+
+pub one-head-more : (links : List ℕ) (x : ℕ) → x < 544 → HeadsAlone links x → HeadsAlone (set links x x) (x + 1)
+one-head-more links x below heads =
+    record {
+      from = omega (arith, heads .from);
+      within = omega arith;
+      size = length-set links x x ∙ heads .size;
+      alone = λ j low high. go j low high (decLt j x);
+    }
+  where
+    go : (j : ℕ) → 64 ≤ j → j < x + 1 → Dec (j < x) → getD (set links x x) j 0 ≡ j
+    go j low high (yes less) = getD-set-other links x j x 0 (λ e. lt-irrefl x (omega arith)) ∙ heads .alone j low less
+    go j low high (no last) =
+        let e : j ≡ x = omega arith in
+        subst⁻¹ (λ (k : ℕ). getD (set links x x) k 0 ≡ k) e (getD-set-same links x x 0 (omega (arith, heads .size)))
+
+-- ids all 0 leave nothing to collect
+none-collected : (ids keys : ℕ → ℕ) (n : ℕ) → ((i : ℕ) → i < n → ids i ≡ 0) → collected ids keys n ≡ []
+unfolding collected
+none-collected ids keys zero free = refl
+none-collected ids keys (suc n) free = collected-none ids keys n (free n (omega arith)) ∙ none-collected ids keys n (λ i below. free i (omega arith))
+
+-- with every place free and every head its own neighbour, a queue is sound and has no entry
+module _ (q : Queue) (free : (i : ℕ) → i < 64 → id-at q i ≡ 0) (next-alone : (j : ℕ) → 64 ≤ j → j < 544 → next-at q j ≡ j) (prev-alone : (j : ℕ) → 64 ≤ j → j < 544 → prev-at q j ≡ j) where
+  empty-place : {i : ℕ} → Holds q i → ⊥
+  empty-place {i} holds = lt-irrefl 0 (omega (arith, holds .1, free i (holds .0)))
+
+  head-alone : (x : ℕ) → IsNode (id-at q) x → Linked (id-at q) (key-at q) (next-at q) (prev-at q) x
+  head-alone x (inl place) = absurd (empty-place place)
+  head-alone x (inr head) =
+      let on = next-alone x (head .0) (head .1) in
+      let back = prev-alone x (head .0) (head .1) in
+      record {
+        next-is-node = subst⁻¹ (IsNode (id-at q)) on (inr head);
+        next-in-bucket = ap (bucket-of (key-at q)) on;
+        next-returns = ap (prev-at q) on ∙ back;
+        in-order = subst⁻¹ (λ (y : ℕ). low (id-at q) x < high (id-at q) y) on (omega (arith, low-head (id-at q) x (head .0), high-head (id-at q) x (head .0)));
+        prev-is-node = subst⁻¹ (IsNode (id-at q)) back (inr head);
+        prev-returns = ap (next-at q) back ∙ on;
+      }
+
+  alone-empty : HasEntries q []
+  unfolding entries
+  alone-empty =
+      record {
+        sound =
+            record {
+              ids-in-range = λ i holds. absurd (empty-place holds);
+              once = λ i j holds. absurd (empty-place holds);
+              keys-in-range = λ i holds. absurd (empty-place holds);
+              span = λ i j holds. absurd (empty-place holds);
+              links = head-alone;
+            };
+        content = none-collected (id-at q) (key-at q) 64 free;
+      }
+
+pub no-entries : (links : List ℕ) (x : ℕ) → 544 ≤ x → HeadsAlone links x → HasEntries (record { ids = replicate 64 0; keys = replicate 64 0; next = links; prev = links }) []
+no-entries links x all heads =
+    alone-empty (record { ids = replicate 64 0; keys = replicate 64 0; next = links; prev = links }) (λ i below. getD-replicate 64 i 0 0 below)
+    (λ j low high. heads .alone j low (omega arith)) (λ j low high. heads .alone j low (omega arith))

@@ -1,0 +1,59 @@
+-- What a layer above may use of a queue: its entries, with nothing about places or links. The calls' contracts say how they change.
+use mathlib.Core.Path.{_≡_, sym, ap, subst⁻¹, _∙_}
+use mathlib.Core.Logic.{_↔_, ∥∥₁-elim, Dec·not}
+use mathlib.Core.HLevel.{×-prop}
+use mathlib.Core.List.{List, List·Mem, mem-filter}
+use Prim.Native.Nat.{ℕ, _%_, _≤_}
+use native.Mathlib.Bridge.{le-prop}
+use native.Mathlib.Decide.{ℕ-discrete}
+use native.Mathlib.Omega.{arith}
+use lib.ListN.{length}
+use Rattle.queue.specs.Order.{Entry}
+use Rattle.queue.specs.Entries.{without, InBounds}
+use Rattle.queue.specs.Layout.{id-at, key-at, entries, Sound}
+use Rattle.queue.specs.EntryFacts.{InOrder, entry-set}
+use Rattle.queue.specs.Layout.Collected.{entry, of-collected, collected-in-order, collected-length}
+use Rattle.queue.specs.Layout.SoundFacts.{sound-once, sound-in-bounds}
+use Rattle.queue.specs.declared.Queue.{Queue}
+
+module _ (q : Queue) (sound : Sound q) where
+  -- entries are in order, by key and then id
+  pub entries-in-order : InOrder (entries q)
+  unfolding entries
+  entries-in-order = collected-in-order (id-at q) (key-at q) (sound-once q sound) 64 (omega arith)
+
+  -- there are at most 64
+  pub entries-at-most : length (entries q) ≤ 64
+  unfolding entries
+  entries-at-most = collected-length (id-at q) (key-at q) 64
+
+  -- ids are 1 to 32,767 ..
+  pub entry-id-in-range : (e : Entry) → List·Mem e (entries q) → (1 ≤ e .id) × (e .id ≤ 32767)
+  unfolding entries
+  entry-id-in-range e m =
+      ∥∥₁-elim (of-collected (id-at q) (key-at q) 64 e m) (×-prop le-prop le-prop)
+      (λ w. subst⁻¹ (λ (a : Entry). (1 ≤ a .id) × (a .id ≤ 32767)) (w .3) (w .2, sound .ids-in-range (w .0) (w .1, w .2)))
+
+  -- .. and each is filed once
+  pub entry-once : (d e : Entry) → List·Mem d (entries q) → List·Mem e (entries q) → d .id ≡ e .id → d ≡ e
+  unfolding entries
+  entry-once d e md me same =
+      ∥∥₁-elim (of-collected (id-at q) (key-at q) 64 d md) (entry-set d e)
+      (λ v. ∥∥₁-elim (of-collected (id-at q) (key-at q) 64 e me) (entry-set d e)
+      (λ w. v .3
+      ∙ (ap (entry (id-at q) (key-at q))
+      (sound-once q sound (v .0) (w .0) (v .1) (w .1) (v .2) (sym (ap (λ (a : Entry). a .id) (v .3)) ∙ (same ∙ ap (λ (a : Entry). a .id) (w .3))))
+      ∙ sym (w .3))))
+
+  -- keys are at most 2,000,000,000 and at most 479 apart
+  pub entries-in-bounds : InBounds (entries q)
+  entries-in-bounds = sound-in-bounds q sound
+
+  -- so a bucket holds one key: keys that are equal modulo 480 are equal
+  pub one-key-a-bucket : (d e : Entry) → List·Mem d (entries q) → List·Mem e (entries q) → d .key % 480 ≡ e .key % 480 → d .key ≡ e .key
+  one-key-a-bucket d e md me same = omega (arith, entries-in-bounds .span d e md me, entries-in-bounds .span e d me md)
+
+-- an entry is left by `without` exactly if it was there under another id
+pub in-without-iff : (id : ℕ) (es : List Entry) (e : Entry) → List·Mem e (without id es) ↔ (List·Mem e es × (e .id ≡ id → ⊥))
+unfolding without
+in-without-iff id es e = mem-filter (λ (a : Entry). Dec·not (ℕ-discrete (a .id) id))

@@ -1,0 +1,187 @@
+-- The links after an entry is put in or taken out.
+use mathlib.Core.Path.{_≡_, sym, ap, subst, subst⁻¹, _∙_}
+use mathlib.Core.Logic.{inl, inr, ite}
+use Prim.Native.Nat.{ℕ, _-_, _%_, _≤_, _<_}
+use native.Mathlib.Nat.{lt-irrefl}
+use native.Mathlib.Decide.{decLt, ℕ-discrete}
+use native.Mathlib.Omega.{arith}
+use Rattle.queue.specs.Layout.{IsNode, bucket-of, low, high, Linked, AllLinked}
+use Rattle.queue.specs.Layout.LinkFacts.{low-place, high-place, bucket-place}
+
+-- f′ is f with the value v at x
+pub record IsSet (f : ℕ → ℕ) (x v : ℕ) (f′ : ℕ → ℕ) : Type 0 where
+  pub at : f′ x ≡ v
+  pub elsewhere : (y : ℕ) → (y ≡ x → ⊥) → f′ y ≡ f y
+
+-- what is said of a node hangs on its own id and key
+module _ (ids ids′ keys keys′ : ℕ → ℕ) (y : ℕ) (same-id : ids′ y ≡ ids y) (same-key : keys′ y ≡ keys y) where
+  keep-node : IsNode ids y → IsNode ids′ y
+  keep-node (inl place) = inl (place .0, rw same-id (place .1))
+  keep-node (inr head) = inr head
+
+  keep-low : low ids′ y ≡ low ids y
+  unfolding low
+  keep-low = ap (λ (v : ℕ). ite (decLt y 64) v 0) same-id
+
+  keep-high : high ids′ y ≡ high ids y
+  unfolding high
+  keep-high = ap (λ (v : ℕ). ite (decLt y 64) v 32768) same-id
+
+  keep-bucket : bucket-of keys′ y ≡ bucket-of keys y
+  unfolding bucket-of
+  keep-bucket = ap (λ (v : ℕ). ite (decLt y 64) (v % 480) (y - 64)) same-key
+
+-- the two halves of Linked: the link to the next node, and the link to the one before
+abbrev NextOk : (ids keys next prev : ℕ → ℕ) → ℕ → Type 0
+NextOk ids keys next prev y = IsNode ids (next y) × (bucket-of keys (next y) ≡ bucket-of keys y) × (prev (next y) ≡ y) × (low ids y < high ids (next y))
+
+abbrev PrevOk : (ids next prev : ℕ → ℕ) → ℕ → Type 0
+PrevOk ids next prev y = IsNode ids (prev y) × (next (prev y) ≡ y)
+
+both-ok : (ids keys next prev : ℕ → ℕ) (y : ℕ) → NextOk ids keys next prev y → PrevOk ids next prev y → Linked ids keys next prev y
+both-ok ids keys next prev y on back =
+    record { next-is-node = on .0; next-in-bucket = on .1; next-returns = on .2; in-order = on .3; prev-is-node = back .0; prev-returns = back .1 }
+
+module _ (ids ids′ keys keys′ next′ prev′ : ℕ → ℕ) (y z : ℕ) (same-y : (ids′ y ≡ ids y) × (keys′ y ≡ keys y)) (same-z : (ids′ z ≡ ids z) × (keys′ z ≡ keys z)) where
+  -- a link from y to z between nodes whose ids and keys are as before
+  next-kept : IsNode ids z → bucket-of keys z ≡ bucket-of keys y → low ids y < high ids z → next′ y ≡ z → prev′ z ≡ y → NextOk ids′ keys′ next′ prev′ y
+  next-kept node bucket order to back = (
+    rw to (keep-node ids ids′ keys keys′ z (same-z .0) (same-z .1) node),
+    ap (bucket-of keys′) to ∙ (keep-bucket ids ids′ keys keys′ z (same-z .0) (same-z .1) ∙ (bucket ∙ sym (keep-bucket ids ids′ keys keys′ y (same-y .0) (same-y .1)))),
+    ap prev′ to ∙ back,
+    rw (to, keep-low ids ids′ keys keys′ y (same-y .0) (same-y .1), keep-high ids ids′ keys keys′ z (same-z .0) (same-z .1)) order,
+  )
+
+  prev-kept : IsNode ids z → prev′ y ≡ z → next′ z ≡ y → PrevOk ids′ next′ prev′ y
+  prev-kept node to on = (rw to (keep-node ids ids′ keys keys′ z (same-z .0) (same-z .1) node), ap next′ to ∙ on)
+
+-- the links after an entry is put between a node p and the next one
+module _ (ids ids′ keys keys′ next next′ prev prev′ : ℕ → ℕ) (x id key p : ℕ)
+    (linked : AllLinked ids keys next prev) (set-id : IsSet ids x id ids′) (set-key : IsSet keys x key keys′)
+    (inside : x < 64) (free : ids x ≡ 0) (some : 1 ≤ id) (p-node : IsNode ids p) (bucket : bucket-of keys p ≡ key % 480)
+    (above : low ids p < id) (below : id < high ids (next p))
+    (from-p : next′ p ≡ x) (from-x : next′ x ≡ next p) (next-else : (y : ℕ) → (y ≡ p → ⊥) → (y ≡ x → ⊥) → next′ y ≡ next y)
+    (to-n : prev′ (next p) ≡ x) (to-x : prev′ x ≡ p) (prev-else : (y : ℕ) → (y ≡ next p → ⊥) → (y ≡ x → ⊥) → prev′ y ≡ prev y) where
+  not-free : (y : ℕ) → IsNode ids y → y ≡ x → ⊥
+  not-free y (inl place) e = omega (arith, subst (λ (z : ℕ). 1 ≤ ids z) e (place .1))
+  not-free y (inr head) e = omega arith
+
+  put-node : (y : ℕ) → IsNode ids′ y → (y ≡ x → ⊥) → IsNode ids y
+  put-node y (inl place) else = inl (place .0, rw (set-id .elsewhere y else) at (place .1))
+  put-node y (inr head) else = inr head
+
+  x-node : IsNode ids′ x
+  x-node = inl (inside, rw (set-id .at) some)
+
+  n-node : IsNode ids (next p)
+  n-node = linked p p-node .next-is-node
+
+  x-bucket : bucket-of keys′ x ≡ key % 480
+  x-bucket = bucket-place keys′ x inside ∙ ap (λ (v : ℕ). v % 480) (set-key .at)
+
+  kept : (y : ℕ) → IsNode ids y → (ids′ y ≡ ids y) × (keys′ y ≡ keys y)
+  kept y node = (set-id .elsewhere y (not-free y node), set-key .elsewhere y (not-free y node))
+
+  at-x : Linked ids′ keys′ next′ prev′ x
+  at-x =
+      let n = next p in
+      let k = kept n n-node in
+      record {
+        next-is-node = rw from-x (keep-node ids ids′ keys keys′ n (k .0) (k .1) n-node);
+        next-in-bucket = ap (bucket-of keys′) from-x ∙ (keep-bucket ids ids′ keys keys′ n (k .0) (k .1) ∙ (linked p p-node .next-in-bucket ∙ (bucket ∙ sym x-bucket)));
+        next-returns = ap prev′ from-x ∙ to-n;
+        in-order = rw (from-x, low-place ids′ x inside, set-id .at, keep-high ids ids′ keys keys′ n (k .0) (k .1)) below;
+        prev-is-node = rw to-x (keep-node ids ids′ keys keys′ p (kept p p-node .0) (kept p p-node .1) p-node);
+        prev-returns = ap next′ to-x ∙ from-p;
+      }
+
+  at-p : NextOk ids′ keys′ next′ prev′ p
+  at-p =
+      let k = kept p p-node in (
+        rw from-p x-node,
+        ap (bucket-of keys′) from-p ∙ (x-bucket ∙ (sym bucket ∙ sym (keep-bucket ids ids′ keys keys′ p (k .0) (k .1)))),
+        ap prev′ from-p ∙ to-x,
+        rw (from-p, keep-low ids ids′ keys keys′ p (k .0) (k .1), high-place ids′ x inside, set-id .at) above,
+      )
+
+  next-elsewhere : (y : ℕ) → IsNode ids y → Dec (y ≡ p) → NextOk ids′ keys′ next′ prev′ y
+  next-elsewhere y node (yes e) = subst⁻¹ (NextOk ids′ keys′ next′ prev′) e at-p
+  next-elsewhere y node (no other) =
+      let l = linked y node in
+      let not-n : next y ≡ next p → ⊥ = λ e. other (sym (l .next-returns) ∙ (ap prev e ∙ linked p p-node .next-returns)) in
+      next-kept ids ids′ keys keys′ next′ prev′ y (next y) (kept y node) (kept (next y) (l .next-is-node)) (l .next-is-node) (l .next-in-bucket) (l .in-order)
+      (next-else y other (not-free y node)) (prev-else (next y) not-n (not-free (next y) (l .next-is-node)) ∙ l .next-returns)
+
+  prev-elsewhere : (y : ℕ) → IsNode ids y → Dec (y ≡ next p) → PrevOk ids′ next′ prev′ y
+  prev-elsewhere y node (yes e) = subst⁻¹ (PrevOk ids′ next′ prev′) e (rw to-n x-node, ap next′ to-n ∙ from-x)
+  prev-elsewhere y node (no other) =
+      let l = linked y node in
+      let not-p : prev y ≡ p → ⊥ = λ e. other (sym (l .prev-returns) ∙ ap next e) in
+      prev-kept ids ids′ keys keys′ next′ prev′ y (prev y) (kept y node) (kept (prev y) (l .prev-is-node)) (l .prev-is-node)
+      (prev-else y other (not-free y node)) (next-else (prev y) not-p (not-free (prev y) (l .prev-is-node)) ∙ l .prev-returns)
+
+  pub put-linked : AllLinked ids′ keys′ next′ prev′
+  put-linked y node = go (ℕ-discrete y x)
+    where
+      go : Dec (y ≡ x) → Linked ids′ keys′ next′ prev′ y
+      go (yes e) = subst⁻¹ (Linked ids′ keys′ next′ prev′) e at-x
+      go (no other) =
+          let old = put-node y node other in
+          both-ok ids′ keys′ next′ prev′ y (next-elsewhere y old (ℕ-discrete y p)) (prev-elsewhere y old (ℕ-discrete y (next p)))
+
+-- the links after an entry x is taken out
+module _ (ids ids′ keys keys′ next next′ prev prev′ : ℕ → ℕ) (x key : ℕ)
+    (linked : AllLinked ids keys next prev) (set-id : IsSet ids x 0 ids′) (set-key : IsSet keys x key keys′)
+    (inside : x < 64) (holds : 1 ≤ ids x)
+    (over : next′ (prev x) ≡ next x) (next-rest : (y : ℕ) → (y ≡ prev x → ⊥) → (y ≡ x → ⊥) → next′ y ≡ next y)
+    (under : prev′ (next x) ≡ prev x) (prev-rest : (y : ℕ) → (y ≡ next x → ⊥) → (y ≡ x → ⊥) → prev′ y ≡ prev y) where
+  gone : Linked ids keys next prev x
+  gone = linked x (inl (inside, holds))
+
+  before-gone : Linked ids keys next prev (prev x)
+  before-gone = linked (prev x) (gone .prev-is-node)
+
+  -- ids rise past x, so x is neither its own next nor its own previous
+  next-differs : next x ≡ x → ⊥
+  next-differs e = lt-irrefl (ids x) (subst (λ (z : ℕ). ids x < z) (ap (high ids) e ∙ high-place ids x inside) (rw (low-place ids x inside) at (gone .in-order)))
+
+  prev-differs : prev x ≡ x → ⊥
+  prev-differs e = next-differs (sym (ap next e) ∙ gone .prev-returns)
+
+  left-node : (y : ℕ) → IsNode ids′ y → (y ≡ x → ⊥) × IsNode ids y
+  left-node y (inl place) =
+      let other : y ≡ x → ⊥ = λ e. lt-irrefl 0 (omega (arith, subst (λ (z : ℕ). 1 ≤ ids′ z) e (place .1), set-id .at)) in
+      (other, inl (place .0, rw (set-id .elsewhere y other) at (place .1)))
+  left-node y (inr head) = ((λ e. lt-irrefl 0 (omega (arith, e))), inr head)
+
+  stays : (y : ℕ) → (y ≡ x → ⊥) → (ids′ y ≡ ids y) × (keys′ y ≡ keys y)
+  stays y other = (set-id .elsewhere y other, set-key .elsewhere y other)
+
+  next-left : (y : ℕ) → IsNode ids y → (y ≡ x → ⊥) → Dec (y ≡ prev x) → NextOk ids′ keys′ next′ prev′ y
+  next-left y node other (yes e) =
+      subst⁻¹ (NextOk ids′ keys′ next′ prev′) e
+      (next-kept ids ids′ keys keys′ next′ prev′ (prev x) (next x) (stays (prev x) prev-differs) (stays (next x) next-differs) (gone .next-is-node)
+      (gone .next-in-bucket ∙ (ap (bucket-of keys) (sym (gone .prev-returns)) ∙ before-gone .next-in-bucket))
+      (let a = rw (gone .prev-returns, high-place ids x inside) at (before-gone .in-order) in let b = rw (low-place ids x inside) at (gone .in-order) in omega arith) over under)
+  next-left y node other (no not-p) =
+      let l = linked y node in
+      let not-x : next y ≡ x → ⊥ = λ e. not-p (sym (l .next-returns) ∙ ap prev e) in
+      let not-n : next y ≡ next x → ⊥ = λ e. other (sym (l .next-returns) ∙ (ap prev e ∙ gone .next-returns)) in
+      next-kept ids ids′ keys keys′ next′ prev′ y (next y) (stays y other) (stays (next y) not-x) (l .next-is-node) (l .next-in-bucket) (l .in-order)
+      (next-rest y not-p other) (prev-rest (next y) not-n not-x ∙ l .next-returns)
+
+  prev-left : (y : ℕ) → IsNode ids y → (y ≡ x → ⊥) → Dec (y ≡ next x) → PrevOk ids′ next′ prev′ y
+  prev-left y node other (yes e) =
+      subst⁻¹ (PrevOk ids′ next′ prev′) e
+      (prev-kept ids ids′ keys keys′ next′ prev′ (next x) (prev x) (stays (next x) next-differs) (stays (prev x) prev-differs) (gone .prev-is-node) under over)
+  prev-left y node other (no not-n) =
+      let l = linked y node in
+      let not-x : prev y ≡ x → ⊥ = λ e. not-n (sym (l .prev-returns) ∙ ap next e) in
+      let not-p : prev y ≡ prev x → ⊥ = λ e. other (sym (l .prev-returns) ∙ (ap next e ∙ gone .prev-returns)) in
+      prev-kept ids ids′ keys keys′ next′ prev′ y (prev y) (stays y other) (stays (prev y) not-x) (l .prev-is-node)
+      (prev-rest y not-n other) (next-rest (prev y) not-p not-x ∙ l .prev-returns)
+
+  pub taken-linked : AllLinked ids′ keys′ next′ prev′
+  taken-linked y node =
+      let old = left-node y node in
+      both-ok ids′ keys′ next′ prev′ y (next-left y (old .1) (old .0) (ℕ-discrete y (prev x))) (prev-left y (old .1) (old .0) (ℕ-discrete y (next x)))

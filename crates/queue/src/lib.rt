@@ -1,0 +1,187 @@
+// The deadline queue: ids filed under keys, in 480 circular buckets by key modulo 480, each a doubly linked list ordered by id.
+// Every call here tests the queue it is handed. A layer that knows its queue to be sound calls the forms whose names end in _sound.
+ghost use mathlib.Core.Path.{_≡_};
+ghost use mathlib.Core.List.{[]};
+ghost use Rattle.basics.specs.Refusals.{answer-of};
+ghost use Rattle.queue.specs.Entries.{without};
+ghost use Rattle.queue.specs.Layout.{entries};
+ghost use Rattle.queue.specs.Calls.{insert-refusals, delete-refusals, move-refusals, inserted, moved, IsChange, least-of, next-of};
+ghost use Rattle.queue.specs.Inner.{HasEntries};
+use links::place_of;
+pub use search::least_sound;
+pub use search::next_sound;
+pub use sound::delete_sound;
+pub use sound::insert_sound;
+use sound::key_fits;
+pub use sound::move_sound;
+use sound::sum;
+pub use soundness::is_sound;
+
+mod links;
+mod search;
+mod sound;
+mod soundness;
+
+// Places 0 to 63 hold entries, id 0 where a place is free; node 64 + b is the head of bucket b. `next` and `prev` link the nodes.
+pub struct Queue {
+    pub ids: [u16; 64],
+    pub keys: [u32; 64],
+    pub next: [u16; 544],
+    pub prev: [u16; 544],
+}
+
+// What a change answers, and the queue after it.
+pub struct Changed {
+    pub answer: u32,
+    pub queue: Queue,
+}
+
+// What a search answers: a key and an id.
+pub struct Found {
+    pub answer: u32,
+    pub key: u32,
+    pub id: u32,
+}
+
+// A queue with nothing filed: every bucket's head is its own neighbour.
+pub fn empty() -> Queue
+    ensures { λ r. ⌜ HasEntries r [] ⌝ }
+{
+    let mut links = [0u16; 544];
+    let mut x: usize = 64;
+    while x < 544 {
+        links[x] = x as u16;
+        x += 1;
+    }
+    Queue {
+        ids: [0u16; 64],
+        keys: [0u32; 64],
+        next: links,
+        prev: links,
+    }
+}
+
+fn insert_refusal(q: Queue, id: u32, key: u32) -> u32
+    ensures { λ r. ⌜ r ≡ answer-of (insert-refusals q id key) ⌝ }
+{
+    if !is_sound(q) {
+        return 5;
+    }
+    if id < 1 {
+        return 6;
+    }
+    if 32767 < id {
+        return 6;
+    }
+    if place_of(&q.ids, 0) == 64 {
+        return 21;
+    }
+    if place_of(&q.ids, id) != 64 {
+        return 22;
+    }
+    if !key_fits(&q.ids, &q.keys, 64, key as u64) {
+        return 23;
+    }
+    0
+}
+
+// Files an id under a key.
+pub fn insert(q: Queue, id: u32, key: u32) -> Changed
+    ensures { λ r. ⌜ IsChange (insert-refusals q id key) q (inserted id key (entries q)) r ⌝ }
+{
+    let answer = insert_refusal(q, id, key);
+    if answer != 0 {
+        return Changed { answer, queue: q };
+    }
+    let queue = insert_sound(q, id, key);
+    Changed { answer: 0, queue }
+}
+
+// Id 0 stands at free places, so it is never filed.
+fn delete_refusal(q: Queue, id: u32) -> u32
+    ensures { λ r. ⌜ r ≡ answer-of (delete-refusals q id) ⌝ }
+{
+    if !is_sound(q) {
+        return 5;
+    }
+    if id < 1 {
+        return 24;
+    }
+    if place_of(&q.ids, id) == 64 {
+        return 24;
+    }
+    0
+}
+
+// Takes an id out.
+pub fn delete(q: Queue, id: u32) -> Changed
+    ensures { λ r. ⌜ IsChange (delete-refusals q id) q (without id (entries q)) r ⌝ }
+{
+    let answer = delete_refusal(q, id);
+    if answer != 0 {
+        return Changed { answer, queue: q };
+    }
+    let queue = delete_sound(q, id);
+    Changed { answer: 0, queue }
+}
+
+// The sum of key and amount is taken in 64 bits: it may pass 32.
+fn move_refusal(q: Queue, id: u32, amount: u32) -> u32
+    ensures { λ r. ⌜ r ≡ answer-of (move-refusals q id amount) ⌝ }
+{
+    if !is_sound(q) {
+        return 5;
+    }
+    if id < 1 {
+        return 24;
+    }
+    let x = place_of(&q.ids, id);
+    if x == 64 {
+        return 24;
+    }
+    let key = q.keys[x];
+    if !key_fits(&q.ids, &q.keys, x, sum(key, amount)) {
+        return 23;
+    }
+    0
+}
+
+// Adds an amount to the key of an id.
+pub fn move_by(q: Queue, id: u32, amount: u32) -> Changed
+    ensures { λ r. ⌜ IsChange (move-refusals q id amount) q (moved id amount (entries q)) r ⌝ }
+{
+    let answer = move_refusal(q, id, amount);
+    if answer != 0 {
+        return Changed { answer, queue: q };
+    }
+    let queue = move_sound(q, id, amount);
+    Changed { answer: 0, queue }
+}
+
+// The first entry of all.
+pub fn least(q: Queue) -> Found
+    ensures { λ r. ⌜ r ≡ least-of q ⌝ }
+{
+    if !is_sound(q) {
+        return Found {
+            answer: 5,
+            key: 0,
+            id: 0,
+        };
+    }
+    least_sound(q)
+}
+
+// The first entry after a pair of key and id, filed or not.
+pub fn next(q: Queue, key: u32, id: u32) -> Found
+    ensures { λ r. ⌜ r ≡ next-of q key id ⌝ }
+{
+    if !is_sound(q) {
+        return Found {
+            answer: 5,
+            key: 0,
+            id: 0,
+        };
+    }
+    next_sound(q, key, id)
+}

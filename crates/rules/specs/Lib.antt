@@ -13,6 +13,7 @@ pub mod Lists
 pub mod Equality
 pub mod DuePackets
 pub mod SlotFacts
+pub mod SlotOrder
 pub mod RoundKept
 pub mod PacketFacts
 pub mod Calls

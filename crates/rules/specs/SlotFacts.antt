@@ -51,7 +51,7 @@ before-false x y e = go (ltb (due x) (due y)) refl _ e
     go true less rest e = absurd (true≢false e)
     go false less rest e = ltb-false (due x) (due y) less
 
-put-perm : (x : Stream) (ys : List Stream) → Perm (put-in-order x ys) (x ∷ ys)
+pub put-perm : (x : Stream) (ys : List Stream) → Perm (put-in-order x ys) (x ∷ ys)
 unfolding put-in-order
 put-perm x [] = Perm·refl (x ∷ [])
 put-perm x (y ∷ ys) = go (goes-before x y) (put-perm x ys)

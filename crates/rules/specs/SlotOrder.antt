@@ -1,0 +1,129 @@
+-- The slots of a round are in order, come before every other packet that may ride, and are the only list that does.
+use mathlib.Core.Path.{_≡_, refl, sym, ap, subst⁻¹}
+use mathlib.Core.Bool.{Bool, true, false, cond, _&&_, _||_, true≢false, false≢true}
+use mathlib.Core.Logic.{_⊎_, inl, inr, _↔_, Or·elim}
+use mathlib.Core.HLevel.{hedberg, ×-prop}
+use mathlib.Core.List.{List, [], _∷_, _++_, List·Mem, Pairwise, Pairwise·nil, Pairwise·cons, pairwise-cons, pairwise-append, Pairwise·filter, Pairwise·of-map, Perm·mem-iff, not-mem-nil, mem-cons-self, mem-cons-of-mem, mem-append, eq-or-mem-of-mem-cons}
+use Prim.Native.Nat.{ℕ, _≤_, _<_}
+use native.Mathlib.Bridge.{le-prop}
+use native.Mathlib.Nat.{lt-irrefl}
+use native.Mathlib.Decide.{ℕ-discrete}
+use native.Mathlib.Omega.{arith}
+use lib.Dec.{leb, ltb, eqb}
+use lib.ListN.{take, drop, take-append-drop}
+use borrow.Author.Tests.{ltb-true, ltb-false, eqb-true, eqb-false, leb-true, leb-false}
+use Rattle.basics.specs.Sorted.{sorted-unique}
+use Rattle.rules.specs.Streams.{Stream, packet, due, IsTable}
+use Rattle.rules.specs.Slots.{may-ride, riders, goes-before, put-in-order, in-order, slots}
+use Rattle.rules.specs.Equality.{stream-set}
+use Rattle.rules.specs.SlotFacts.{put-perm, in-order-perm}
+
+-- x comes before y: it is due earlier, or due at the same time with a smaller number
+abbrev pub Earlier : Stream → Stream → Type 0
+Earlier x y = (due x < due y) ⊎ ((due x ≡ due y) × (x .number < y .number))
+
+abbrev Differ : Stream → Stream → Type 0
+Differ x y = x .number ≡ y .number → ⊥
+
+pub earlier-asym : (x y : Stream) → Earlier x y → Earlier y x → ⊥
+earlier-asym x y (inl a) (inl b) = omega arith
+earlier-asym x y (inl a) (inr b) = omega (arith, b .0)
+earlier-asym x y (inr a) (inl b) = omega (arith, a .0)
+earlier-asym x y (inr a) (inr b) = omega (arith, a .1, b .1)
+
+earlier-trans : (x y z : Stream) → Earlier x y → Earlier y z → Earlier x z
+earlier-trans x y z (inl a) (inl b) = inl (omega arith)
+earlier-trans x y z (inl a) (inr b) = inl (omega (arith, b .0))
+earlier-trans x y z (inr a) (inl b) = inl (omega (arith, a .0))
+earlier-trans x y z (inr a) (inr b) = inr (omega (arith, a .0, b .0), omega (arith, a .1, b .1))
+
+earlier-prop : (x y : Stream) → IsProp (Earlier x y)
+earlier-prop x y (inl a) (inl b) = ap inl (le-prop a b)
+earlier-prop x y (inl a) (inr b) = absurd (lt-irrefl (due x) (omega (arith, b .0)))
+earlier-prop x y (inr a) (inl b) = absurd (lt-irrefl (due x) (omega (arith, a .0)))
+earlier-prop x y (inr a) (inr b) = ap inr (×-prop (hedberg ℕ-discrete (due x) (due y)) le-prop a b)
+
+-- the test of the order decides it between streams of different numbers
+before-yes : (x y : Stream) → Differ x y → goes-before x y ≡ true → Earlier x y
+unfolding goes-before
+before-yes x y differ e = go (ltb (due x) (due y)) refl (eqb (due x) (due y)) refl (leb (x .number) (y .number)) refl e
+  where
+    go : (l : Bool) → ltb (due x) (due y) ≡ l → (q : Bool) → eqb (due x) (due y) ≡ q → (n : Bool) → leb (x .number) (y .number) ≡ n → (l || (q && n)) ≡ true → Earlier x y
+    go true less q same n tie e = inl (ltb-true (due x) (due y) less)
+    go false less true same true tie e = inr (eqb-true (due x) (due y) same, omega (arith, leb-true (x .number) (y .number) tie))
+    go false less true same false tie e = absurd (false≢true e)
+    go false less false same n tie e = absurd (false≢true e)
+
+before-no : (x y : Stream) → Differ x y → goes-before x y ≡ false → Earlier y x
+unfolding goes-before
+before-no x y differ e = go (ltb (due x) (due y)) refl (eqb (due x) (due y)) refl (leb (x .number) (y .number)) refl e
+  where
+    go : (l : Bool) → ltb (due x) (due y) ≡ l → (q : Bool) → eqb (due x) (due y) ≡ q → (n : Bool) → leb (x .number) (y .number) ≡ n → (l || (q && n)) ≡ false → Earlier y x
+    go true less q same n tie e = absurd (true≢false e)
+    go false less true same true tie e = absurd (true≢false e)
+    go false less true same false tie e = inr (sym (eqb-true (due x) (due y) same), leb-false (x .number) (y .number) tie)
+    go false less false same n tie e = inl (strict (due y) (due x) (ltb-false (due x) (due y) less) (eqb-false (due x) (due y) same))
+      where
+        strict : (a b : ℕ) → a ≤ b → (b ≡ a → ⊥) → a < b
+        strict a b le differ = omega arith
+
+abbrev pub InSlotOrder : List Stream → Type 0
+InSlotOrder = Pairwise Earlier
+
+put-keeps-order : (x : Stream) (ys : List Stream) → InSlotOrder ys → ((y : Stream) → List·Mem y ys → Differ x y) → InSlotOrder (put-in-order x ys)
+unfolding put-in-order
+put-keeps-order x [] sorted differ = Pairwise·cons (λ y m. absurd (not-mem-nil m)) sorted
+put-keeps-order x (y ∷ ys) sorted differ = go (goes-before x y) refl (put-keeps-order x ys (pairwise-cons .0 sorted .1) (λ z m. differ z (mem-cons-of-mem y m)))
+  where
+    later : (z : Stream) → List·Mem z ys → Earlier y z
+    later = pairwise-cons .0 sorted .0
+
+    go : (first : Bool) → goes-before x y ≡ first → InSlotOrder (put-in-order x ys) → InSlotOrder (cond first (x ∷ y ∷ ys) (y ∷ put-in-order x ys))
+    go true e below =
+        let first = before-yes x y (differ y mem-cons-self) e in
+        Pairwise·cons {a = x}
+        (λ z m. Or·elim (earlier-prop x z) (eq-or-mem-of-mem-cons m) (λ same. subst⁻¹ (Earlier x) same first) (λ m′. earlier-trans x y z first (later z m′))) sorted
+    go false e below =
+        Pairwise·cons {a = y}
+        (λ z m. Or·elim (earlier-prop y z) (eq-or-mem-of-mem-cons (Perm·mem-iff (put-perm x ys) .0 m))
+        (λ same. subst⁻¹ (Earlier y) same (before-no x y (differ y mem-cons-self) e)) (later z)) below
+
+-- streams of different numbers are put in order
+pub in-order-is-sorted : (xs : List Stream) → Pairwise Differ xs → InSlotOrder (in-order xs)
+unfolding in-order
+in-order-is-sorted [] differ = Pairwise·nil
+in-order-is-sorted (x ∷ xs) differ =
+    let split = pairwise-cons .0 differ in
+    put-keeps-order x (in-order xs) (in-order-is-sorted xs (split .1)) (λ y m. split .0 y (Perm·mem-iff (in-order-perm xs) .0 m))
+
+module _ (s : ℕ) (ss : List Stream) (table : IsTable ss) where
+  riders-differ : Pairwise Differ (riders s ss)
+  unfolding riders
+  riders-differ = Pairwise·filter (λ (x : Stream). may-ride (packet x 0) s) {l = ss} (Pairwise·of-map (λ (x : Stream). x .number) (λ x y differ. differ) (table .differ))
+
+  line-in-order : InSlotOrder (in-order (riders s ss))
+  line-in-order = in-order-is-sorted (riders s ss) riders-differ
+
+  -- a list in order of just the packets that may ride is that line, however it was made
+  pub line-unique : (xs : List Stream) → InSlotOrder xs → ((x : Stream) → List·Mem x xs ↔ List·Mem x (riders s ss)) → xs ≡ in-order (riders s ss)
+  line-unique xs sorted same =
+      sorted-unique stream-set Earlier earlier-asym xs (in-order (riders s ss)) sorted line-in-order
+      (λ x m. Perm·mem-iff (in-order-perm (riders s ss)) .1 (same x .0 m)) (λ x m. same x .1 (Perm·mem-iff (in-order-perm (riders s ss)) .0 m))
+
+  module _ (b : ℕ) where
+    both-parts : InSlotOrder (take b (in-order (riders s ss)) ++ drop b (in-order (riders s ss)))
+    both-parts = subst⁻¹ InSlotOrder (take-append-drop b (in-order (riders s ss))) line-in-order
+
+    -- the slots stand in order ..
+    pub slots-in-order : InSlotOrder (slots b s ss)
+    unfolding slots
+    slots-in-order = pairwise-append earlier-prop {l₁ = take b (in-order (riders s ss))} {l₂ = drop b (in-order (riders s ss))} .0 both-parts .0
+
+    -- .. and before every other packet that may ride
+    pub slots-come-first : (x y : Stream) → List·Mem x (slots b s ss) → List·Mem y (riders s ss) → (List·Mem y (slots b s ss) → ⊥) → Earlier x y
+    unfolding slots
+    slots-come-first x y chosen rides left =
+        let line = in-order (riders s ss) in
+        let there : List·Mem y (take b line ++ drop b line) = subst⁻¹ (λ (l : List Stream). List·Mem y l) (take-append-drop b line) (Perm·mem-iff (in-order-perm (riders s ss)) .1 rides) in
+        Or·elim (earlier-prop x y) (mem-append .0 there) (λ first. absurd (left first))
+        (λ later. pairwise-append earlier-prop {l₁ = take b line} {l₂ = drop b line} .0 both-parts .2 x chosen y later)

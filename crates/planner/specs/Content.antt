@@ -7,7 +7,7 @@ use Rattle.planner.specs.declared.Stream
 use Rattle.planner.specs.declared.Planner.{Planner}
 
 -- 01: "B, F, G, the last round's start L, and each stream with its first unserved packet."
-pub record Held : Type 0 where
+pub record Content : Type 0 where
   pub slots : ℕ
   pub frame : ℕ
   pub gap : ℕ
@@ -19,9 +19,9 @@ abbrev pub stream-of : Rattle.planner.specs.declared.Stream.Stream → S
 stream-of s = record { number = s .id; period = s .period; deadline = s .deadline; release = s .release }
 
 -- The streams are those in the first `count` places; the other places do not count.
-abbrev pub held : Planner → Held
-held p = record { slots = p .slots; frame = p .frame; gap = p .gap; last = p .last; table = map stream-of (take (p .count) (p .streams)) }
+abbrev pub content : Planner → Content
+content p = record { slots = p .slots; frame = p .frame; gap = p .gap; last = p .last; table = map stream-of (take (p .count) (p .streams)) }
 
 -- 01: "Now" is L + 1.
-abbrev pub now-of : Held → ℕ
+abbrev pub now-of : Content → ℕ
 now-of h = h .last + 1

@@ -6,8 +6,8 @@ use Prim.Native.Nat.{ℕ, _≤_, _<_}
 use native.Mathlib.Decide.{decLe, decLt}
 use lib.ListN.{replicate}
 use Rattle.basics.specs.Refusals.{Refusal, answer-of}
-use Rattle.queue.specs.Inner.{HasEntries}
-use Rattle.planner.specs.Content.{Held, held}
+use Rattle.queue.specs.Calls.{HasEntries}
+use Rattle.planner.specs.Content.{Content, content}
 use Rattle.planner.specs.declared.Planner.{Planner}
 use Rattle.planner.specs.declared.Changed.{Changed}
 
@@ -24,16 +24,16 @@ abbrev pub open-refusals : ℕ → ℕ → ℕ → ℕ → List Refusal
 open-refusals b f g t = not-in 1 64 b ∷ not-in 2 5040 f ∷ not-in 3 255 g ∷ late t ∷ []
 
 -- 01: "The new planner has L = T."
-abbrev pub opened : ℕ → ℕ → ℕ → ℕ → Held
+abbrev pub opened : ℕ → ℕ → ℕ → ℕ → Content
 opened b f g t = record { slots = b; frame = f; gap = g; last = t; table = [] }
 
 -- 01: "the closed planner: every number 0, no stream, an empty queue".
-abbrev pub closed : Held
+abbrev pub closed : Content
 closed = opened 0 0 0 0
 
 -- A planner with these numbers, no stream, zeros at every place for one, and an empty queue.
 pub record IsFresh (b f g t : ℕ) (p : Planner) : Type 0 where
-  pub holds : held p ≡ opened b f g t
+  pub holds : content p ≡ opened b f g t
   pub count : p .count ≡ 0
   pub places : p .streams ≡ replicate 64 (record { id = 0; period = 0; deadline = 0; release = 0 })
   pub queue : HasEntries (p .queue) []

@@ -9,13 +9,13 @@ use native.Mathlib.Omega.{arith}
 use Rattle.basics.specs.Refusals.{answer-zero}
 use Rattle.rules.specs.Demand.{demand, future}
 use Rattle.queue.specs.Order.{Entry}
-use Rattle.planner.specs.Content.{Held}
-use Rattle.planner.specs.Sound.{HeldSound, Sound}
+use Rattle.planner.specs.Content.{Content}
+use Rattle.planner.specs.Sound.{ContentSound, Sound}
 use Rattle.planner.specs.Open.{not-in, late, opened, IsFresh, IsOpened}
 use Rattle.planner.specs.declared.Planner.{Planner}
 use Rattle.planner.specs.declared.Changed.{Changed}
 
-opened-sound : (b f g t : ℕ) → (1 ≤ b) × (b ≤ 64) → (1 ≤ f) × (f ≤ 5040) → (1 ≤ g) × (g ≤ 255) → t ≤ 1_000_000_000 → HeldSound (opened b f g t)
+opened-sound : (b f g t : ℕ) → (1 ≤ b) × (b ≤ 64) → (1 ≤ f) × (f ≤ 5040) → (1 ≤ g) × (g ≤ 255) → t ≤ 1_000_000_000 → ContentSound (opened b f g t)
 unfolding demand future
 opened-sound b f g t slots frame gap last =
     record {
@@ -30,17 +30,17 @@ pub fresh-is-sound : (b f g t : ℕ) → (1 ≤ b) × (b ≤ 64) → (1 ≤ f) �
 fresh-is-sound b f g t slots frame gap last p fresh =
     record {
       count = omega (arith, fresh .count);
-      held-sound = subst HeldSound (sym (fresh .holds)) (opened-sound b f g t slots frame gap last);
+      content-sound = subst ContentSound (sym (fresh .holds)) (opened-sound b f g t slots frame gap last);
       queue-sound = fresh .queue .sound;
       files = λ e. (
         λ m. absurd (not-mem-nil (subst (λ (es : List Entry). List·Mem e es) (fresh .queue .content) m)),
-        λ some. ∥∥₁-elim some List·Mem-prop (λ w. absurd (not-mem-nil (subst (λ (h : Held). List·Mem (w .0) (h .table)) (fresh .holds) (w .1)))),
+        λ some. ∥∥₁-elim some List·Mem-prop (λ w. absurd (not-mem-nil (subst (λ (h : Content). List·Mem (w .0) (h .table)) (fresh .holds) (w .1)))),
       );
     }
 
 -- 01: "It is not sound", of the closed planner.
 pub closed-is-not-sound : (p : Planner) → IsFresh 0 0 0 0 p → Sound p → ⊥
-closed-is-not-sound p fresh sound = lt-irrefl 0 (subst (λ (h : Held). 1 ≤ h .slots) (fresh .holds) (sound .held-sound .in-range .slots .0))
+closed-is-not-sound p fresh sound = lt-irrefl 0 (subst (λ (h : Content). 1 ≤ h .slots) (fresh .holds) (sound .content-sound .in-range .slots .0))
 
 -- 01: "A successful open gives a sound planner", said of what open answers and hands back.
 pub open-success-is-sound : (b f g t : ℕ) (r : Changed) → IsOpened b f g t r → r .answer ≡ 0 → Sound (r .planner)

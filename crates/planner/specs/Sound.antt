@@ -9,7 +9,7 @@ use Rattle.rules.specs.Demand.{DemandRule, StartRule, DueAfter}
 use Rattle.queue.specs.Order.{Entry}
 use Rattle.queue.specs.Layout.{entries}
 use Rattle.queue.specs.Layout
-use Rattle.planner.specs.Content.{Held, held, now-of}
+use Rattle.planner.specs.Content.{Content, content, now-of}
 use Rattle.planner.specs.declared.Planner.{Planner}
 
 -- 01: "Ids are 1 to 32,767", "P is 1 to 240 and divides F; D is 1 to P".
@@ -20,7 +20,7 @@ pub record StreamInRange (frame : ℕ) (s : Stream) : Type 0 where
   pub deadline : (1 ≤ s .deadline) × (s .deadline ≤ s .period)
 
 -- 01 (a): "all values are in range, each P divides F and ids differ". They stand in ascending order.
-pub record InRange (h : Held) : Type 0 where
+pub record InRange (h : Content) : Type 0 where
   pub slots : (1 ≤ h .slots) × (h .slots ≤ 64)
   pub frame : (1 ≤ h .frame) × (h .frame ≤ 5040)
   pub gap : (1 ≤ h .gap) × (h .gap ≤ 255)
@@ -30,12 +30,12 @@ pub record InRange (h : Held) : Type 0 where
   pub ascending : Pairwise (λ (x y : Stream). x .number < y .number) (h .table)
 
 -- 01 (b): "each unserved packet held is due after now and released no later than now + 239".
-pub record IsNear (h : Held) : Type 0 where
+pub record IsNear (h : Content) : Type 0 where
   pub due-after : DueAfter (now-of h) (h .table)
   pub released : (s : Stream) → List·Mem s (h .table) → s .release ≤ now-of h + 239
 
 -- 01 (a) to (d).
-pub record HeldSound (h : Held) : Type 0 where
+pub record ContentSound (h : Content) : Type 0 where
   pub in-range : InRange h
   pub near : IsNear h
   pub demand-rule : DemandRule (h .slots) (h .table)
@@ -48,6 +48,6 @@ Files es ss = (e : Entry) → List·Mem e es ↔ ∥ ((s : Stream) × List·Mem 
 -- 01: "A planner is sound if (a) .. (e)". The count is that of the streams, so it is at most 64 too.
 pub record Sound (p : Planner) : Type 0 where
   pub count : p .count ≤ 64
-  pub held-sound : HeldSound (held p)
+  pub content-sound : ContentSound (content p)
   pub queue-sound : Layout.Sound (p .queue)
-  pub files : Files (entries (p .queue)) (held p .table)
+  pub files : Files (entries (p .queue)) (content p .table)

@@ -12,8 +12,8 @@ use Rattle.queue.specs.Order.{Entry}
 use Rattle.queue.specs.Entries.{Filed, InBounds}
 use Rattle.queue.specs.Layout.{entries, Sound}
 use Rattle.queue.specs.Layout.Decide.{decide-sound, decide-filed, decide-in-bounds}
-use Rattle.queue.specs.Calls.{unsound, bad-id, full, filed, out-of-bounds, not-filed, inserted, moved, insert-refusals, delete-refusals, move-refusals, IsChange}
-use Rattle.queue.specs.Inner.{HasEntries, CanInsert, CanDelete, CanMove}
+use Rattle.queue.specs.Calls.{unsound, bad-id, full, filed, out-of-bounds, not-filed, inserted, moved, insert-refusals, delete-refusals, move-refusals, HasEntries, IsChange}
+use Rattle.queue.specs.Inner.{CanInsert, CanDelete, CanMove}
 use Rattle.queue.specs.declared.Queue.{Queue}
 
 -- a refused change hands the queue back ..

@@ -58,6 +58,11 @@ delete-refusals q id = unsound q ∷ not-filed id (entries q) ∷ []
 abbrev pub move-refusals : Queue → ℕ → ℕ → List Refusal
 move-refusals q id amount = unsound q ∷ not-filed id (entries q) ∷ out-of-bounds (moved id amount (entries q)) ∷ []
 
+-- A sound queue with these entries. How its links and free places lie is left free.
+pub record HasEntries (q : Queue) (es : List Entry) : Type 0 where
+  pub sound : Sound q
+  pub content : entries q ≡ es
+
 -- A call that changes a queue gives the answer of its refusals; refused, it hands the queue back; else the queue handed back is sound and has
 -- the entries es. How its links and free places lie is left free.
 pub record IsChange (refusals : List Refusal) (q : Queue) (es : List Entry) (r : Changed) : Type 0 where

@@ -64,11 +64,6 @@ PlaceFits ids keys out key i = (i ≡ out → ⊥) → 1 ≤ getD ids i 0 → (k
 abbrev pub KeyFits : (ids keys : List ℕ) → ℕ → ℕ → Type 0
 KeyFits ids keys out key = (key ≤ 2_000_000_000) × ((i : ℕ) → i < 64 → PlaceFits ids keys out key i)
 
--- A sound queue with these entries.
-pub record HasEntries (q : Queue) (es : List Entry) : Type 0 where
-  pub sound : Sound q
-  pub content : entries q ≡ es
-
 -- What insert, delete and move need beyond a sound queue: that no refusal applies.
 pub record CanInsert (q : Queue) (id key : ℕ) : Type 0 where
   pub sound : Sound q

@@ -12,11 +12,11 @@ use lib.Seq.{getD-set-same}
 use Rattle.queue.specs.Order.{Entry}
 use Rattle.queue.specs.Entries.{put, without, key-of, Filed}
 use Rattle.queue.specs.Layout.{id-at, key-at, next-at, prev-at, Holds, entries, Sound}
-use Rattle.queue.specs.Calls.{inserted, moved}
+use Rattle.queue.specs.Calls.{inserted, moved, HasEntries}
 use Rattle.queue.specs.Layout.Collected.{entry, of-collected, in-collected, collected-room, collected-full}
 use Rattle.queue.specs.EntryFacts.{put-new, entry-set}
 use Rattle.queue.specs.Layout.SoundFacts.{HasShape, put-entries, put-sound, taken-entries, taken-sound, node-below, sound-once}
-use Rattle.queue.specs.Inner.{IsPlaceOf, IsPosition, IsNew, CanPut, put-before, CanTake, taken-out, HasEntries, CanInsert, CanMove}
+use Rattle.queue.specs.Inner.{IsPlaceOf, IsPosition, IsNew, CanPut, put-before, CanTake, taken-out, CanInsert, CanMove}
 use Rattle.queue.specs.declared.Queue.{Queue}
 
 -- an id at a place is filed

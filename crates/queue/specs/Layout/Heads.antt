@@ -11,7 +11,7 @@ use lib.Seq.{getD-set-same, getD-set-other}
 use Rattle.queue.specs.Layout.{id-at, key-at, next-at, prev-at, Holds, collected, entries, IsNode, bucket-of, low, high, Linked}
 use Rattle.queue.specs.Layout.LinkFacts.{low-head, high-head}
 use Rattle.queue.specs.Layout.Collected.{collected-none}
-use Rattle.queue.specs.Inner.{HasEntries}
+use Rattle.queue.specs.Calls.{HasEntries}
 use Rattle.queue.specs.declared.Queue.{Queue}
 
 -- the heads from 64 to x link to themselves

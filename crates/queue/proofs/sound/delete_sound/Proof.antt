@@ -2,7 +2,7 @@
 use mathlib.Core.Path.{subst⁻¹}
 use Rattle.queue.specs.Entries.{without}
 use Rattle.queue.specs.Layout.{entries}
-use Rattle.queue.specs.Inner.{HasEntries}
+use Rattle.queue.specs.Calls.{HasEntries}
 use Rattle.queue.specs.declared.Queue.{Queue}
 use Rattle.queue.proofs.Shape.{has-shape}
 use Rattle.queue.specs.Layout.Change.{delete-can-take, delete-entries}

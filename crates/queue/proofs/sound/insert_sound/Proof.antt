@@ -1,8 +1,7 @@
 -- `queue::sound::insert_sound` meets its contract: the first free place takes the entry, and the position keeps the bucket in order.
 use mathlib.Core.Path.{subst⁻¹}
 use Rattle.queue.specs.Layout.{entries}
-use Rattle.queue.specs.Calls.{inserted}
-use Rattle.queue.specs.Inner.{HasEntries}
+use Rattle.queue.specs.Calls.{inserted, HasEntries}
 use Rattle.queue.specs.declared.Queue.{Queue}
 use Rattle.queue.proofs.Shape.{has-shape}
 use Rattle.queue.specs.Layout.Change.{insert-new, insert-can-put, insert-entries}

@@ -3,3 +3,4 @@ pub mod Decides
 pub mod Refusals
 pub mod Below
 pub mod Sorted
+pub mod Members

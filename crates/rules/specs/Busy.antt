@@ -17,8 +17,8 @@ use Rattle.rules.specs.Sums.{AllWellFormed, Fits, first-of, rest-of, mos
 abbrev pub IsBusy : ℕ → List Stream → ℕ → Type 0
 IsBusy b ss T = (1 ≤ T) × (most-in ss T ≤ b * T)
 
--- a sum that grows by at most b × T in T units, and keeps to b × (t - x) in the T units from `from` on, keeps to it from there on
-pub settled : (f : ℕ → ℕ) (b T x from : ℕ) → 1 ≤ T → x ≤ from → ((t : ℕ) → f (t + T) ≤ f t + b * T)
+-- a sum that from `from` on grows by at most b × T in T units, and keeps to b × (t - x) in the first T of them, keeps to it from there on
+pub settled : (f : ℕ → ℕ) (b T x from : ℕ) → 1 ≤ T → x ≤ from → ((t : ℕ) → from ≤ t → f (t + T) ≤ f t + b * T)
     → ((t : ℕ) → from ≤ t → t < from + T → f t ≤ b * (t - x)) → (t : ℕ) → from ≤ t → f t ≤ b * (t - x)
 settled f b T x from some before grows near t = recursion (Nat·lt-wfRel .wf) {C = λ t. from ≤ t → f t ≤ b * (t - x)} t step
   where
@@ -30,7 +30,7 @@ settled f b T x from some before grows near t = recursion (Nat·lt-wfRel .wf) {C
         go (no far) =
             let back : t - T + T ≡ t = omega arith in
             let split : t - x ≡ t - T - x + T = omega arith in
-            let growth : f t ≤ f (t - T) + b * T = subst (λ (u : ℕ). f u ≤ f (t - T) + b * T) back (grows (t - T)) in
+            let growth : f t ≤ f (t - T) + b * T = subst (λ (u : ℕ). f u ≤ f (t - T) + b * T) back (grows (t - T) (omega arith)) in
             rw (split, mul-add) (omega (arith, earlier (t - T) (omega arith) (omega arith)))
 
 most-in-at-zero : (ss : List Stream) (T : ℕ) → most-in (map at-zero ss) T ≡ most-in ss T
@@ -48,7 +48,7 @@ module _ (b T : ℕ) (ss : List Stream) (all : AllWellFormed ss) (busy : IsBusy 
   busy-settles-demand near t some =
       let plain : t - 0 ≡ t = omega arith in
       rw plain at
-      (settled (demand ss) b T 0 1 (busy .0) (omega arith) (λ u. omega (arith, demand-window ss all u T, busy .1))
+      (settled (demand ss) b T 0 1 (busy .0) (omega arith) (λ u after. omega (arith, demand-window ss all u T, busy .1))
       (λ u on close. let e : u - 0 ≡ u = omega arith in rw e (near u on (omega arith))) t some)
 
   pub busy-growth : (t : ℕ) → future ss (t + T) ≤ future ss t + b * T
@@ -61,7 +61,7 @@ module _ (b T : ℕ) (ss : List Stream) (all : AllWellFormed ss) (busy : IsBusy 
     where
       go : Dec (t < from) → future ss t ≤ b * (t - x)
       go (yes early) = omega (arith, future-before-all ss all t (λ s m. let h = late s m in omega arith))
-      go (no on) = settled (future ss) b T x from (busy .0) before busy-growth near t (omega arith)
+      go (no on) = settled (future ss) b T x from (busy .0) before (λ u after. busy-growth u) near t (omega arith)
 
 module _ (F : ℕ) (positive : 1 ≤ F) where
   -- where P divides F, F units hold F / P due times, however they lie

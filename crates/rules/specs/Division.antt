@@ -22,14 +22,14 @@ ceil-enough n b positive = omega (arith, lt-div-mul-add {a = n + (b - 1)} positi
 pub ceil-positive : (n b : ℕ) → 1 ≤ b → 0 < n → 1 ≤ ceil n b
 ceil-positive n b positive some = le-div-iff-mul-le positive .1 (omega arith)
 
+pub packets-some : (p d t : ℕ) → d ≤ t → packets-by p d t ≡ (t - d) / p + 1
+unfolding packets-by
+packets-some p d t early = if-pos (decLe d t) early ((t - d) / p + 1) 0
+
 module _ (p : ℕ) (positive : 1 ≤ p) where
   pub packets-none : (d t : ℕ) → t < d → packets-by p d t ≡ 0
   unfolding packets-by
   packets-none d t late = if-neg (decLe d t) (λ le. omega arith) ((t - d) / p + 1) 0
-
-  pub packets-some : (d t : ℕ) → d ≤ t → packets-by p d t ≡ (t - d) / p + 1
-  unfolding packets-by
-  packets-some d t early = if-pos (decLe d t) early ((t - d) / p + 1) 0
 
   -- the two cases in one quotient
   pub packets-quotient : (d t : ℕ) → packets-by p d t ≡ (t + p - d) / p
@@ -38,14 +38,14 @@ module _ (p : ℕ) (positive : 1 ≤ p) where
       go : Dec (d ≤ t) → packets-by p d t ≡ (t + p - d) / p
       go (yes early) =
           let e : t + p - d ≡ t - d + p = omega arith in
-          rw (packets-some d t early, e, add-div-right (t - d) positive)
+          rw (packets-some p d t early, e, add-div-right (t - d) positive)
       go (no late) = rw (packets-none d t (omega arith), div-eq-of-lt {n = t + p - d} {m = p} (omega arith))
 
   -- one period later, one packet fewer where the first one counts
   pub packets-after-first : (d t : ℕ) → d ≤ t → packets-by p (d + p) t + 1 ≡ packets-by p d t
   packets-after-first d t early =
       let e : t + p - (d + p) ≡ t - d = omega arith in
-      rw (packets-quotient (d + p) t, packets-some d t early, e)
+      rw (packets-quotient (d + p) t, packets-some p d t early, e)
 
   -- a due time d that lies x or more after d′ counts by t at most what d′ counts by t - x
   pub packets-later : (d d′ x t : ℕ) → d′ + x ≤ d → packets-by p d t ≤ packets-by p d′ (t - x)

@@ -91,7 +91,7 @@ module _ (f : ℕ → ℕ) (cap from : ℕ) where
       go (no gt) (inr w) = inr (w .0, omega (arith, w .1))
 
 module _ (b cap : ℕ) (ss : List Stream) where
-  latest-some : (t : ℕ) → 0 < future ss t → latest b cap ss t ≡ t - ceil (future ss t) b
+  pub latest-some : (t : ℕ) → 0 < future ss t → latest b cap ss t ≡ t - ceil (future ss t) b
   unfolding latest
   latest-some t some = if-pos (decLt 0 (future ss t)) some (t - ceil (future ss t) b) cap
 

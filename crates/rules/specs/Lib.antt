@@ -6,6 +6,7 @@ pub mod Plans
 pub mod Runs
 pub mod Division
 pub mod Sums
+pub mod CountBy
 pub mod Busy
 pub mod LazyStart
 pub mod Decide

@@ -5,7 +5,7 @@ use mathlib.Core.HLevel.{⊥-prop}
 use mathlib.Core.List.{List, List·Mem, map, mem-map, mem-map-of-mem}
 use mathlib.Mathlib.Data.List.Nodup.{inj-on-of-nodup-map}
 use Prim.Native.Nat.{ℕ, zero, suc, _+_, _-_, _*_, _≤_, _<_}
-use native.Mathlib.Nat.{suc-mul, mul-zero}
+use native.Mathlib.Nat.{suc-mul, add-mul, mul-zero}
 use native.Mathlib.Decide.{decLt}
 use native.Mathlib.Omega.{arith}
 use lib.ListN.{length}
@@ -22,6 +22,23 @@ use Rattle.rules.specs.RoundKept.{passed-table, passed-elim, served-iff}
 pub packet-next : (s : Stream) (k : ℕ) → packet (next s) k ≡ packet s (suc k)
 packet-next s k =
     packet-path (packet (next s) k) (packet s (suc k)) refl (omega (arith, suc-mul k (s .period))) (omega (arith, suc-mul k (s .period)))
+
+-- the stream with its first k packets sent
+abbrev pub advanced : ℕ → Stream → Stream
+advanced k s = record { number = s .number; period = s .period; deadline = s .deadline; release = s .release + k * s .period }
+
+pub advanced-none : (s : Stream) → advanced 0 s ≡ s
+advanced-none s = let e : s .release + 0 * s .period ≡ s .release = omega arith in λ i. record { number = s .number; period = s .period; deadline = s .deadline; release = e i }
+
+pub advanced-next : (s : Stream) (k : ℕ) → next (advanced k s) ≡ advanced (k + 1) s
+advanced-next s k =
+    let e : s .release + k * s .period + s .period ≡ s .release + (k + 1) * s .period = omega (arith, add-mul k 1 (s .period)) in
+    λ i. record { number = s .number; period = s .period; deadline = s .deadline; release = e i }
+
+-- its packet j is packet k + j
+pub packet-advanced : (s : Stream) (k j : ℕ) → packet (advanced k s) j ≡ packet s (k + j)
+packet-advanced s k j =
+    packet-path (packet (advanced k s) j) (packet s (k + j)) refl (omega (arith, add-mul k j (s .period))) (omega (arith, add-mul k j (s .period)))
 
 -- where everything fits at x, every packet of the table is due after x
 pub packet-due-after : (b x : ℕ) (ss : List Stream) → AllWellFormed ss → Fits b x ss → (q : Packet) → PacketOf ss q → x < q .due

@@ -2,7 +2,8 @@
 use mathlib.Core.Path.{_≡_, refl, ap, subst}
 use mathlib.Core.Bool.{Bool, true, false, cond, _&&_, _||_, true≢false, false≢true}
 use mathlib.Core.Logic.{_⊎_, inl, inr, _↔_, Iff·trans, Or·elim, ∥∥₁-elim, ∥∥₁-prop}
-use mathlib.Core.List.{List, [], _∷_, _++_, List·Mem, List·Nodup, Pairwise, Pairwise·nil, Pairwise·cons, pairwise-cons, pairwise-append, Pairwise·of-map, Pairwise·filter, nodup-append, Perm, Perm·refl, Perm·nil, Perm·cons, Perm·swap, Perm·trans, Perm·symm, Perm·mem-iff, Perm·nodup, filter, mem-filter, filter-eq-self, mem-append, mem-append-left, not-mem-nil, eq-or-mem-of-mem-cons, decidableBEx}
+use mathlib.Core.List.{List, [], _∷_, _++_, List·Mem, List·Nodup, Pairwise, Pairwise·nil, Pairwise·cons, pairwise-cons, pairwise-append, Pairwise·of-map, Pairwise·filter, nodup-append, Perm, Perm·refl, Perm·nil, Perm·cons, Perm·swap, Perm·trans, Perm·symm, Perm·mem-iff, Perm·nodup, map, filter, mem-filter, filter-eq-self, mem-append, mem-append-left, not-mem-nil, eq-or-mem-of-mem-cons, decidableBEx}
+use mathlib.Mathlib.Data.List.Nodup.{map-on, inj-on-of-nodup-map}
 use Prim.Native.Nat.{ℕ, _≤_}
 use native.Mathlib.Bridge.{le-prop}
 use native.Mathlib.Nat.{le-trans}
@@ -15,6 +16,7 @@ use Rattle.rules.specs.Streams.{Stream, packet, due, MayRide, IsTable}
 use Rattle.rules.specs.Demand.{DueAfter}
 use Rattle.rules.specs.Slots.{may-ride, riders, goes-before, put-in-order, in-order, slots}
 use Rattle.rules.specs.Lists.{mem-nonempty}
+use Rattle.rules.specs.Equality.{stream-set}
 
 -- b of the chosen are due by t
 abbrev pub Full : ℕ → ℕ → List Stream → Type 0
@@ -110,6 +112,13 @@ rider-iff s ss x = mem-filter (λ (y : Stream). may-ride (packet y 0) s)
 -- streams told apart by number are different streams
 pub nodup-streams : (ss : List Stream) → IsTable ss → List·Nodup ss
 nodup-streams ss table = Pairwise·of-map (λ (x : Stream). x .number) (λ x y differ same. differ (ap (λ (z : Stream). z .number) same)) (table .differ)
+
+-- the streams of a choice differ in number
+pub choice-differ : (b s : ℕ) (ss chosen : List Stream) → IsTable ss → IsChoice b s ss chosen → List·Nodup (map (λ (x : Stream). x .number) chosen)
+choice-differ b s ss chosen table choice =
+    map-on {l = chosen} {f = λ (x : Stream). x .number}
+    (λ x there y other. inj-on-of-nodup-map stream-set (λ (z : Stream). z .number) (table .differ) x (choice .inside x there) y (choice .inside y other))
+    (choice .distinct)
 
 module _ (b s : ℕ) (ss : List Stream) (table : IsTable ss) where
   line : List Stream

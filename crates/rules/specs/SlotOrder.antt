@@ -101,7 +101,7 @@ module _ (s : ℕ) (ss : List Stream) (table : IsTable ss) where
   unfolding riders
   riders-differ = Pairwise·filter (λ (x : Stream). may-ride (packet x 0) s) {l = ss} (Pairwise·of-map (λ (x : Stream). x .number) (λ x y differ. differ) (table .differ))
 
-  line-in-order : InSlotOrder (in-order (riders s ss))
+  pub line-in-order : InSlotOrder (in-order (riders s ss))
   line-in-order = in-order-is-sorted (riders s ss) riders-differ
 
   -- a list in order of just the packets that may ride is that line, however it was made

@@ -18,7 +18,7 @@ use Rattle.rules.specs.Busy.{IsBusy, busy-settles-demand, busy-settles-s
 use Rattle.rules.specs.LazyStart.{first-due, first-due-before}
 use Rattle.rules.specs.RoundKept.{IsReady}
 
-both : {a b : Bool} → So (a && b) → So a × So b
+pub both : {a b : Bool} → So (a && b) → So a × So b
 both {a} {b} tested = and-eq-true-iff a b .0 tested
 
 -- a test of the numbers below n

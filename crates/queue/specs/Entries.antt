@@ -2,8 +2,9 @@
 use mathlib.Core.Path.{_≡_}
 use mathlib.Core.Logic.{ite, Dec·not}
 use mathlib.Core.List.{List, [], _∷_, List·Mem, filter}
-use Prim.Native.Nat.{ℕ, _+_, _≤_}
+use Prim.Native.Nat.{ℕ, _+_, _≤_, _<_}
 use native.Mathlib.Decide.{ℕ-discrete}
+use lib.ListN.{getD}
 use Rattle.queue.specs.Order.{Entry, before}
 
 -- An entry put into its place in a list in order.
@@ -27,6 +28,10 @@ key-of id (e ∷ es) = ite (ℕ-discrete (e .id) id) (e .key) (key-of id es)
 -- Some entry has the id.
 abbrev pub Filed : ℕ → List Entry → Type 0
 Filed id es = ∥ ((e : Entry) × List·Mem e es × (e .id ≡ id)) ∥₁
+
+-- Each of the first n pairs of key and id is an entry.
+abbrev pub AllFiled : (ids keys : List ℕ) → ℕ → List Entry → Type 0
+AllFiled ids keys n es = (i : ℕ) → i < n → List·Mem (record { key = getD keys i 0; id = getD ids i 0 }) es
 
 -- 01: no "key above 2,000,000,000" and no "span of largest minus smallest key above 479".
 pub record InBounds (es : List Entry) : Type 0 where

@@ -12,6 +12,7 @@ pub mod Buckets
 pub mod Answers
 pub mod First
 pub mod Heads
+pub mod Filed
 pub mod Laws
 use mathlib.Core.Path.{_≡_}
 use mathlib.Core.Logic.{_⊎_, ite}

@@ -6,6 +6,8 @@ ghost use Rattle.basics.specs.Refusals.{answer-of};
 ghost use Rattle.queue.specs.Entries.{without};
 ghost use Rattle.queue.specs.Layout.{entries};
 ghost use Rattle.queue.specs.Calls.{insert-refusals, delete-refusals, move-refusals, inserted, moved, HasEntries, IsChange, least-of, next-of};
+pub use filed::all_filed_sound;
+pub use filed::filed_count;
 use links::place_of;
 pub use search::least_sound;
 pub use search::next_sound;
@@ -16,6 +18,7 @@ pub use sound::move_sound;
 use sound::sum;
 pub use soundness::is_sound;
 
+mod filed;
 mod links;
 mod search;
 mod sound;

@@ -92,10 +92,10 @@ module _ (q : Queue) (id x : ℕ) (sound : Sound q) (filed : Filed id (entries q
       }
 
 -- the key of an id is that of the one entry that has it
-pub key-of-entry : (id : ℕ) (es : List Entry) (e : Entry) → List·Mem e es → e .id ≡ id → ((d : Entry) → List·Mem d es → d .id ≡ id → d ≡ e) → key-of id es ≡ e .key
+pub key-of-only : (id : ℕ) (es : List Entry) (e : Entry) → List·Mem e es → e .id ≡ id → ((d : Entry) → List·Mem d es → d .id ≡ id → d ≡ e) → key-of id es ≡ e .key
 unfolding key-of
-key-of-entry id [] e m same only = absurd (not-mem-nil m)
-key-of-entry id (x ∷ xs) e m same only = go (ℕ-discrete (x .id) id) (λ m′. key-of-entry id xs e m′ same (λ d md. only d (mem-cons-of-mem x md)))
+key-of-only id [] e m same only = absurd (not-mem-nil m)
+key-of-only id (x ∷ xs) e m same only = go (ℕ-discrete (x .id) id) (λ m′. key-of-only id xs e m′ same (λ d md. only d (mem-cons-of-mem x md)))
   where
     go : (d : Dec (x .id ≡ id)) → (List·Mem e xs → key-of id xs ≡ e .key) → ite d (x .key) (key-of id xs) ≡ e .key
     go (yes here) below = ap (λ (d : Entry). d .key) (only x mem-cons-self here)
@@ -106,7 +106,7 @@ key-of-entry id (x ∷ xs) e m same only = go (ℕ-discrete (x .id) id) (λ m′
 pub key-of-place : (q : Queue) → Sound q → (id x : ℕ) → Holds q x → id-at q x ≡ id → key-of id (entries q) ≡ key-at q x
 unfolding entries
 key-of-place q sound id x there has =
-    key-of-entry id (entries q) (entry (id-at q) (key-at q) x) (in-collected (id-at q) (key-at q) 64 x (there .0) (there .1)) has
+    key-of-only id (entries q) (entry (id-at q) (key-at q) x) (in-collected (id-at q) (key-at q) 64 x (there .0) (there .1)) has
     (λ d m same. ∥∥₁-elim (of-collected (id-at q) (key-at q) 64 d m) (entry-set d (entry (id-at q) (key-at q) x))
     (λ w. w .3 ∙ ap (entry (id-at q) (key-at q)) (sound-once q sound (w .0) x (w .1) (there .0) (w .2) (sym (ap (λ (e : Entry). e .id) (w .3)) ∙ (same ∙ sym has)))))
 

@@ -22,7 +22,7 @@ abbrev pub Once : (ids : ℕ → ℕ) → Type 0
 Once ids = (i j : ℕ) → i < 64 → j < 64 → 1 ≤ ids i → ids i ≡ ids j → i ≡ j
 
 module _ (ids keys : ℕ → ℕ) where
-  collected-some : (i : ℕ) → 1 ≤ ids i → collected ids keys (suc i) ≡ put (entry ids keys i) (collected ids keys i)
+  pub collected-some : (i : ℕ) → 1 ≤ ids i → collected ids keys (suc i) ≡ put (entry ids keys i) (collected ids keys i)
   unfolding collected
   collected-some i holds = if-pos (decLe 1 (ids i)) holds (put (entry ids keys i) (collected ids keys i)) (collected ids keys i)
 

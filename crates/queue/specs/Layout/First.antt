@@ -1,5 +1,5 @@
 -- The first entry of a list in order, from the place that the search finds.
-use mathlib.Core.Path.{_≡_, refl, sym, ap, subst, subst⁻¹}
+use mathlib.Core.Path.{_≡_, refl, sym, ap, subst, subst⁻¹, _∙_}
 use mathlib.Core.Logic.{inl, inr, Or·elim, ∥∥₁-elim, ∥∥₁-prop}
 use mathlib.Core.HLevel.{⊥-prop}
 use mathlib.Core.List.{List, [], _∷_, List·Mem, Pairwise·filter, pairwise-cons, mem-filter, filter-eq-self, not-mem-nil, mem-cons-self, eq-or-mem-of-mem-cons}
@@ -16,21 +16,28 @@ use Rattle.queue.specs.Inner.{IsFirstAfter}
 use Rattle.queue.specs.declared.Queue.{Queue}
 use Rattle.queue.specs.declared.Found.{Found}
 
+-- a sound queue passes 5
+pub first-none : {q : Queue} (d : Dec (Sound q)) → Sound q → first-of d [] ≡ refused-find 25
+unfolding first-of
+first-none (no unsound) sound = absurd (unsound sound)
+first-none (yes s) sound = refl
+
+pub first-some : {q : Queue} (d : Dec (Sound q)) → Sound q → (e : Entry) (es : List Entry) → first-of d (e ∷ es) ≡ record { answer = 0; key = e .key; id = e .id }
+unfolding first-of
+first-some (no unsound) sound e es = absurd (unsound sound)
+first-some (yes s) sound e es = refl
+
 -- an entry of a list in order that none comes before is its first
 first-is : (es : List Entry) → InOrder es → (e : Entry) → List·Mem e es → ((a : Entry) → List·Mem a es → Before a e → ⊥) → {q : Queue} (d : Dec (Sound q)) → Sound q
     → first-of d es ≡ record { answer = 0; key = e .key; id = e .id }
-unfolding first-of
-first-is es sorted e m least (no unsound) sound = absurd (unsound sound)
-first-is [] sorted e m least (yes s) sound = absurd (not-mem-nil m)
-first-is (x ∷ xs) sorted e m least (yes s) sound =
+first-is [] sorted e m least d sound = absurd (not-mem-nil m)
+first-is (x ∷ xs) sorted e m least d sound =
     let same : e ≡ x = Or·elim (entry-set e x) (eq-or-mem-of-mem-cons m) (λ here. here) (λ later. absurd (least x mem-cons-self (pairwise-cons .0 sorted .0 e later))) in
-    ap {B = Found} (λ (a : Entry). record { answer = 0; key = a .key; id = a .id }) (sym same)
+    first-some d sound x xs ∙ ap {B = Found} (λ (a : Entry). record { answer = 0; key = a .key; id = a .id }) (sym same)
 
 none-is : (es : List Entry) → ((a : Entry) → List·Mem a es → ⊥) → {q : Queue} (d : Dec (Sound q)) → Sound q → first-of d es ≡ refused-find 25
-unfolding first-of
-none-is es none (no unsound) sound = absurd (unsound sound)
-none-is [] none (yes s) sound = refl
-none-is (x ∷ xs) none (yes s) sound = absurd (none x mem-cons-self)
+none-is [] none d sound = first-none d sound
+none-is (x ∷ xs) none d sound = absurd (none x mem-cons-self)
 
 pub unsound-find : {q : Queue} (d : Dec (Sound q)) (es : List Entry) → (Sound q → ⊥) → first-of d es ≡ refused-find 5
 unfolding first-of

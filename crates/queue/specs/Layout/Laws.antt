@@ -1,19 +1,23 @@
 -- What a layer above may use of a queue: its entries, with nothing about places or links. The calls' contracts say how they change.
-use mathlib.Core.Path.{_≡_, sym, ap, subst⁻¹, _∙_}
-use mathlib.Core.Logic.{_↔_, ∥∥₁-elim, Dec·not}
+use mathlib.Core.Path.{_≡_, refl, sym, ap, subst⁻¹, _∙_}
+use mathlib.Core.Logic.{_↔_, _∨₁_, Or·elim, Iff·or, Iff·rfl, Iff·trans, ∥∥₁-elim, ∥∥₁-prop, Dec·not}
 use mathlib.Core.HLevel.{×-prop}
-use mathlib.Core.List.{List, List·Mem, mem-filter}
-use Prim.Native.Nat.{ℕ, _%_, _≤_}
+use mathlib.Core.List.{List, [], _∷_, List·Mem, mem-filter}
+use Prim.Native.Nat.{ℕ, _+_, _%_, _≤_}
 use native.Mathlib.Bridge.{le-prop}
 use native.Mathlib.Decide.{ℕ-discrete}
 use native.Mathlib.Omega.{arith}
 use lib.ListN.{length}
 use Rattle.queue.specs.Order.{Entry}
-use Rattle.queue.specs.Entries.{without, InBounds}
+use Rattle.queue.specs.Entries.{without, after, key-of, InBounds}
 use Rattle.queue.specs.Layout.{id-at, key-at, entries, Sound}
-use Rattle.queue.specs.EntryFacts.{InOrder, entry-set}
+use Rattle.queue.specs.Calls.{inserted, moved, refused-find, next-of}
+use Rattle.queue.specs.EntryFacts.{InOrder, entry-set, in-put, put-new, put-old}
 use Rattle.queue.specs.Layout.Collected.{entry, of-collected, collected-in-order, collected-length}
+use Rattle.queue.specs.Layout.Decide.{decide-sound}
 use Rattle.queue.specs.Layout.SoundFacts.{sound-once, sound-in-bounds}
+use Rattle.queue.specs.Layout.Change.{key-of-only}
+use Rattle.queue.specs.Layout.First.{first-none, first-some}
 use Rattle.queue.specs.declared.Queue.{Queue}
 
 module _ (q : Queue) (sound : Sound q) where
@@ -57,3 +61,29 @@ module _ (q : Queue) (sound : Sound q) where
 pub in-without-iff : (id : ℕ) (es : List Entry) (e : Entry) → List·Mem e (without id es) ↔ (List·Mem e es × (e .id ≡ id → ⊥))
 unfolding without
 in-without-iff id es e = mem-filter (λ (a : Entry). Dec·not (ℕ-discrete (a .id) id))
+
+-- the entries after an insertion: the new one, and all that were there
+pub in-inserted-iff : (id key : ℕ) (es : List Entry) (e : Entry) → List·Mem e (inserted id key es) ↔ ((e ≡ record { key = key; id = id }) ∨₁ List·Mem e es)
+in-inserted-iff id key es e =
+    let new : Entry = record { key = key; id = id } in
+    (in-put new es e, λ either. Or·elim ∥∥₁-prop either (λ same. rw same (put-new new es)) (put-old new es e))
+
+module _ (q : Queue) (sound : Sound q) where
+  -- an id's key is that of its entry
+  pub key-of-entry : (e : Entry) → List·Mem e (entries q) → key-of (e .id) (entries q) ≡ e .key
+  key-of-entry e m = key-of-only (e .id) (entries q) e m refl (λ d md same. entry-once q sound d e md m same)
+
+  -- the entries after a move: the moved one, and those of other ids
+  pub in-moved-iff : (d : Entry) → List·Mem d (entries q) → (amount : ℕ) → (e : Entry)
+      → List·Mem e (moved (d .id) amount (entries q)) ↔ ((e ≡ record { key = d .key + amount; id = d .id }) ∨₁ (List·Mem e (entries q) × (e .id ≡ d .id → ⊥)))
+  in-moved-iff d m amount e =
+      rw (key-of-entry d m)
+      (Iff·trans (in-inserted-iff (d .id) (d .key + amount) (without (d .id) (entries q)) e)
+      (Iff·or Iff·rfl (in-without-iff (d .id) (entries q) e)))
+
+  -- what next answers: 25 where no entry is after the pair, else the first that is
+  pub next-none : (key id : ℕ) → after (record { key = key; id = id }) (entries q) ≡ [] → next-of q key id ≡ refused-find 25
+  next-none key id none = rw none (first-none (decide-sound q) sound)
+
+  pub next-some : (key id : ℕ) (e : Entry) (es : List Entry) → after (record { key = key; id = id }) (entries q) ≡ e ∷ es → next-of q key id ≡ record { answer = 0; key = e .key; id = e .id }
+  next-some key id e es some = rw some (first-some (decide-sound q) sound e es)

@@ -1,0 +1,72 @@
+-- `table::changes::opened_in_range` meets its contract: the places after i hold what belongs there, those before i are untouched.
+use Prim.Native.Nat.{_-_}
+use native.Mathlib.Omega.{arith}
+use Rattle.table.specs.MoveFacts.{Opening, none-opened, one-more-opened, all-opened}
+use Rattle.table.proofs.Shape.{table-shape}
+use Rattle.table.proofs.changes.opened_in_range.Statement.{statement}
+use Rattle.table.proofs.changes.opened_in_range.Tie as tie
+
+abbrev Inv-loop : tie.InvT-loop
+Inv-loop table place stream streams₀ i₀ streams i = Opening streams₀ place i₀ streams i
+
+abbrev μ-loop : tie.MeasureT-loop
+μ-loop table place stream streams₀ i₀ streams i = i - place
+
+loop-holds : tie.Need-loop-holds Inv-loop μ-loop
+loop-holds c = none-opened _ _ _ (c .before .pre .within) (table-shape (c .before .args .table) _ (c .before .good .0))
+
+sub-moved : tie.Need-sub-moved Inv-loop μ-loop
+sub-moved c = omega arith
+
+mul-moved : tie.Need-mul-moved Inv-loop μ-loop
+mul-moved c = omega (arith, c .before .before .before .pre .room)
+
+array-copy-out-moved : tie.Need-array-copy-out-moved Inv-loop μ-loop
+array-copy-out-moved c = omega (arith, c .before .before .before .pre .room)
+
+mul-streams : tie.Need-mul-streams Inv-loop μ-loop
+mul-streams c = omega (arith, c .before .before .before .before .pre .room)
+
+array-set-from-streams : tie.Need-array-set-from-streams Inv-loop μ-loop
+array-set-from-streams c = omega (arith, c .before .before .before .before .pre .room)
+
+sub-i : tie.Need-sub-i Inv-loop μ-loop
+sub-i c = omega arith
+
+loop-less : tie.Need-loop-less Inv-loop μ-loop
+loop-less c = omega arith
+
+loop-again : tie.Need-loop-again Inv-loop μ-loop
+loop-again c = one-more-opened (c .before .before .loop .inv) (c .before .loop-test .taken) (c .before .before .before .before .pre .room)
+
+mul-streams-2 : tie.Need-mul-streams-2 Inv-loop μ-loop
+mul-streams-2 c = omega (arith, c .before .before .before .pre .room, c .before .before .before .pre .within)
+
+array-set-from-streams-2 : tie.Need-array-set-from-streams-2 Inv-loop μ-loop
+array-set-from-streams-2 c = omega (arith, c .before .before .before .pre .room, c .before .before .before .pre .within)
+
+add-t15 : tie.Need-add-t15 Inv-loop μ-loop
+add-t15 c = omega (arith, c .before .before .before .before .pre .room)
+
+returns : tie.Need-returns Inv-loop μ-loop
+returns c = all-opened (c .before .before .before .before .args .table) (c .before .before .before .before .args .place) (c .before .before .before .before .pre) (table-shape (c .before .before .before .before .args .table) _ (c .before .before .before .before .good .0)) (c .before .loop-test .left) (c .before .before .loop .inv) (c .before .before .before .before .args .stream)
+
+pub opened-in-range-spec : {M : Type 1} → statement M
+opened-in-range-spec =
+    tie.close
+    (tie.spec
+    Inv-loop
+    μ-loop
+    loop-holds
+    sub-moved
+    mul-moved
+    array-copy-out-moved
+    mul-streams
+    array-set-from-streams
+    sub-i
+    loop-less
+    loop-again
+    mul-streams-2
+    array-set-from-streams-2
+    add-t15
+    returns)

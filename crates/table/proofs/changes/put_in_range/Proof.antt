@@ -1,0 +1,24 @@
+-- `table::changes::put_in_range` meets its contract: put-by-id puts a stream before the first greater id.
+use mathlib.Core.Path.{sym, _∙_}
+use native.Mathlib.Omega.{arith}
+use borrow.Author.Needs.{needs}
+use Rattle.table.specs.Table.{stream-of}
+use Rattle.table.specs.ChangeFacts.{put-at-place}
+use Rattle.table.proofs.Shape.{table-holds}
+use Rattle.table.proofs.changes.put_in_range.Statement.{statement}
+use Rattle.table.proofs.changes.put_in_range.Tie as tie
+
+place-before-in-range-requires : tie.Need-place-before-in-range-requires
+place-before-in-range-requires c κs = search needs
+
+opened-in-range-requires : tie.Need-opened-in-range-requires
+opened-in-range-requires c κs = search needs
+
+returns : tie.Need-returns
+returns c =
+    let is-opened = c .opened-in-range .ensures in
+    let holds = table-holds (c .before .before .args .table) _ (c .before .before .good .0) (omega (arith, c .before .before .pre .room)) in
+    record { streams = is-opened .streams ∙ sym (put-at-place _ holds (stream-of (c .before .before .args .stream)) _ (c .before .place-before-in-range .ensures)); count = is-opened .count }
+
+pub put-in-range-spec : {M : Type 1} → statement M
+put-in-range-spec = tie.close (tie.spec place-before-in-range-requires opened-in-range-requires returns)

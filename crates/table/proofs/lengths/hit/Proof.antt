@@ -1,0 +1,14 @@
+-- `table::lengths::hit` meets its contract.
+use mathlib.Core.Path.{sym}
+use Rattle.table.specs.LengthFacts.{hits-yes, hits-no}
+use Rattle.table.proofs.lengths.hit.Statement.{statement}
+use Rattle.table.proofs.lengths.hit.Tie as tie
+
+returns : tie.Need-returns
+returns c = sym (hits-yes _ _ (c .if1 .taken))
+
+returns-2 : tie.Need-returns-2
+returns-2 c = sym (hits-no _ _ (c .if1 .left))
+
+pub hit-spec : {M : Type 1} → statement M
+hit-spec = tie.close (tie.spec returns returns-2)

@@ -1,0 +1,18 @@
+-- `table::lengths::time_after` meets its contract: the two cases are those of `after-hit`.
+use mathlib.Core.Path.{sym}
+use borrow.Author.Needs.{needs}
+use Rattle.table.specs.LengthFacts.{after-yes, after-no}
+use Rattle.table.proofs.lengths.time_after.Statement.{statement}
+use Rattle.table.proofs.lengths.time_after.Tie as tie
+
+add-result : tie.Need-add-result
+add-result c = search needs
+
+returns : tie.Need-returns
+returns c = sym (after-yes _ _ _ (c .if1 .taken))
+
+returns-2 : tie.Need-returns-2
+returns-2 c = sym (after-no _ _ _ (c .if1 .left))
+
+pub time-after-spec : {M : Type 1} → statement M
+time-after-spec = tie.close (tie.spec add-result returns returns-2)

@@ -1,0 +1,34 @@
+-- `table::value_in_range` meets its contract: each arm answers what its column has of a stream.
+use mathlib.Core.Path.{refl}
+use Prim.Native.Nat.{_+_, _≤_}
+use native.Mathlib.Omega.{arith}
+use borrow.Author.Needs.{needs}
+use Rattle.table.proofs.value_in_range.Statement.{statement}
+use Rattle.table.proofs.value_in_range.Tie as tie
+
+enum-told : tie.Need-enum-told
+enum-told c = search needs
+
+enum-told-2 : tie.Need-enum-told-2
+enum-told-2 c = search needs
+
+enum-told-3 : tie.Need-enum-told-3
+enum-told-3 c = search needs
+
+add-result : tie.Need-add-result
+add-result c =
+    let small : c .before .before .before .args .stream .release + c .before .before .before .args .stream .deadline ≤ 2_000_000_000 = rw (c .before .enum-told3 .given .1) at (c .before .before .before .pre) in
+    omega (arith, small)
+
+returns : tie.Need-returns
+returns c = search needs
+
+returns-2 : tie.Need-returns-2
+returns-2 c = search needs
+
+returns-3 : tie.Need-returns-3
+returns-3 c = rw (c .before .enum-told3 .given .1) refl
+
+pub value-in-range-spec : {M : Type 1} → statement M
+value-in-range-spec =
+    tie.close (tie.spec enum-told enum-told-2 enum-told-3 add-result returns returns-2 returns-3)

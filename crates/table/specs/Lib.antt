@@ -1,0 +1,17 @@
+-- Tables of streams in code. A reader has to believe Table, Range and the first definitions of Changes; the rest is proved of them, or is what inner
+-- functions promise one another.
+pub mod Table
+pub mod Range
+pub mod Changes
+pub mod Places
+pub mod Lengths
+pub mod TableFacts
+pub mod ChangeFacts
+pub mod MoveFacts
+pub mod LengthFacts
+pub mod RangeTests
+pub mod RangeTestFacts
+pub mod BusyFacts
+pub mod Start
+pub mod StartFacts
+pub mod SearchFacts

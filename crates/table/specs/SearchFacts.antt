@@ -1,0 +1,109 @@
+-- The search for the next start over a table: what it may rely on, and what each length that it looks at adds.
+use mathlib.Core.Path.{_≡_, refl, ap, _∙_}
+use mathlib.Core.List.{List}
+use Prim.Native.Nat.{ℕ, _+_, _-_, _*_, _≤_, _<_, min}
+use native.Mathlib.Bridge.{le-prop}
+use native.Mathlib.Nat.{le-trans, mul-le-mul-right}
+use native.Mathlib.Omega.{arith}
+use lib.ListN.{length}
+use Rattle.rules.specs.Streams.{Stream, due}
+use Rattle.rules.specs.Demand.{future, ceil}
+use Rattle.rules.specs.Division.{ceil-least}
+use Rattle.rules.specs.CountBy.{count-by-future}
+use Rattle.rules.specs.Sums.{AllWellFormed, future-counts, future-mono}
+use Rattle.table.specs.Table.{streams-of, stream-at, CanRead, IsColumn}
+use Rattle.table.specs.Lengths.{CanFindStart, IsNextStart, IsWalk, CanAdvance, IsAdvance}
+use Rattle.table.specs.TableFacts.{stream-at-mem, all-streams}
+use Rattle.table.specs.LengthFacts.{walk-begins}
+use Rattle.table.specs.Start.{IsLeastOf, CanLookFrom}
+use Rattle.table.specs.StartFacts.{Looked, looked-more, looked-all, found-none, nothing-due}
+use Rattle.table.specs.declared.Table.{Table}
+use Rattle.table.specs.declared.Column.the-variants.{Due}
+use Rattle.table.specs.declared.lengths.Walk.{Walk}
+
+no-streams : (table : Table) → table .count ≡ 0 → (t : ℕ) → future (streams-of table) t ≡ 0
+unfolding future
+no-streams table none t = rw none refl
+
+-- an empty table: the next start is the cap
+pub empty-table : {b x cap T : ℕ} {table : Table} → CanFindStart b x cap T table → table .count ≡ 0 → IsNextStart b x cap (streams-of table) cap
+empty-table {b} {x} {cap} {T} {table} can none = nothing-due b x cap (streams-of table) (can .now .0) (can .cap) (no-streams table none)
+
+module _ {b x cap T : ℕ} {table : Table} (can : CanFindStart b x cap T table) where
+  pub well-formed : AllWellFormed (streams-of table)
+  well-formed s m = can .formed s m .0
+
+  module _ (within : table .count ≤ length (table .streams)) where
+    due-near : (k : ℕ) → k < table .count → (x < due (stream-at table k)) × (due (stream-at table k) ≤ x + 479)
+    due-near k below =
+        let m = stream-at-mem table within k below in
+        (can .near .due-after (stream-at table k) m, omega (arith, can .near .released (stream-at table k) m, can .formed (stream-at table k) m))
+
+    pub can-read-due : CanRead Due table
+    can-read-due = record { count = can .count; small = λ k below. omega (arith, due-near k below, can .now) }
+
+    periods : (k : ℕ) → k < table .count → (1 ≤ stream-at table k .period) × (stream-at table k .period ≤ 240)
+    periods k below = let formed = can .formed (stream-at table k) (stream-at-mem table within k below) in (omega arith, formed .1)
+
+    pub can-advance : {t : ℕ} {w : Walk} → t ≤ 2_000_000_000 → w .sum ≤ 2_000_000_000 → CanAdvance table w t
+    can-advance near room = record { count = can .count; periods = periods; near = near; room = room }
+
+    -- the least due time of the table is where to begin
+    pub can-look : {dues : List ℕ} {first : ℕ} → IsColumn Due table dues → IsLeastOf dues (table .count) first
+        → CanLookFrom b x cap first T table dues
+    can-look {dues} {first} column least =
+        record {
+          can = can;
+          within = within;
+          column = column;
+          before = all-streams (λ (s : Stream). first ≤ due s) (λ s. le-prop) table within (λ k below. omega (arith, least .at-most k below, column k below));
+          counts = future-counts (streams-of table) well-formed (stream-at table place) (stream-at-mem table within place (least .reached .1)) first (omega (arith, here));
+          after = omega (arith, here, due-near place (least .reached .1));
+          near = omega (arith, here, due-near place (least .reached .1));
+        }
+      where
+        place : ℕ
+        place = least .reached .0
+
+        here : first ≡ due (stream-at table place)
+        here = least .reached .2 ∙ column place (least .reached .1)
+
+-- no packet takes more than a round
+pub few-rounds : {b m n : ℕ} → 1 ≤ b → n ≡ ceil m b → n ≤ m
+few-rounds {b} {m} {n} positive parts =
+    let enough : 1 * m ≤ b * m = mul-le-mul-right m positive in
+    omega (arith, parts, ceil-least m b m positive (omega (arith, enough)))
+
+-- where a walk stands when it has gone on to t
+pub walked : {table : Table} {w r : Walk} {t : ℕ} → IsAdvance table w t r → (before : ℕ) × (before + 1 ≡ t) × IsWalk due table before w → IsWalk due table t r
+walked advanced (before, next, walk) = advanced .step due before next walk
+
+module _ {b x cap first T : ℕ} {table : Table} {dues : List ℕ} (can : CanLookFrom b x cap first T table dues) where
+  -- before the first due time nothing has been counted
+  pub begins : IsWalk due table (first - 1) (record { times = dues; sum = 0 })
+  begins =
+      walk-begins due table (can .can .count) (first - 1)
+      (λ k below. omega (arith, can .before (stream-at table k) (stream-at-mem table (can .within) k below), can .after)) dues (can .column)
+      (λ k below. periods (can .can) (can .within) k below .0)
+
+  some-due : (t : ℕ) → first ≤ t → 0 < future (streams-of table) t
+  some-due t on = le-trans (can .counts) (future-mono (streams-of table) (well-formed (can .can)) first t on)
+
+  module _ {t n : ℕ} {w : Walk} (walk : IsWalk due table t w) (parts : n ≡ ceil (w .sum) b) (on : first ≤ t) where
+    needed : n ≡ ceil (future (streams-of table) t) b
+    needed = parts ∙ ap (λ (m : ℕ). ceil m b) (walk .counted ∙ count-by-future (streams-of table) t)
+
+    -- no start at now or later leaves the rounds that the packets due by t need ..
+    pub stops : t < x + n → IsNextStart b x cap (streams-of table) 0
+    stops short = found-none b x cap (streams-of table) first t (can .can .slots .0) n needed (omega (arith, can .after)) short
+
+    -- .. or one does, and t has been looked at
+    pub goes-on : {start r : ℕ} → x + n ≤ t → Looked b x cap (streams-of table) first t start → r ≡ min (t - n) start
+        → Looked b x cap (streams-of table) first (t + 1) r
+    goes-on room looked e = looked-more b x cap (streams-of table) first t (can .can .slots .0) n needed on (some-due t on) room looked e
+
+  -- a busy length of lengths has been looked at
+  pub ends : {t start : ℕ} → t ≡ first + T → Looked b x cap (streams-of table) first t start → IsNextStart b x cap (streams-of table) start
+  ends end looked =
+      looked-all b x cap (streams-of table) first T (well-formed (can .can)) (can .before) (can .can .slots .0) (can .can .now .0) (can .after)
+      (can .can .busy) (can .counts) end looked

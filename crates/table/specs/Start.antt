@@ -1,0 +1,26 @@
+-- What the search for the next start hands from one part to the next.
+use mathlib.Core.Path.{_≡_}
+use mathlib.Core.List.{List, List·Mem}
+use Prim.Native.Nat.{ℕ, _+_, _≤_, _<_}
+use lib.ListN.{getD, length}
+use Rattle.rules.specs.Streams.{Stream, due}
+use Rattle.rules.specs.Demand.{future}
+use Rattle.table.specs.Table.{streams-of, IsColumn}
+use Rattle.table.specs.Lengths.{CanFindStart}
+use Rattle.table.specs.declared.Table.{Table}
+use Rattle.table.specs.declared.Column.the-variants.{Due}
+
+-- The least of the first n values.
+pub record IsLeastOf (values : List ℕ) (n r : ℕ) : Type 0 where
+  pub at-most : (k : ℕ) → k < n → r ≤ getD values k 0
+  pub reached : (k : ℕ) × (k < n) × (r ≡ getD values k 0)
+
+-- What the search relies on that knows the due times: `first` is the least of them.
+pub record CanLookFrom (b x latest first T : ℕ) (table : Table) (dues : List ℕ) : Type 0 where
+  pub can : CanFindStart b x latest T table
+  pub within : table .count ≤ length (table .streams)
+  pub column : IsColumn Due table dues
+  pub before : (s : Stream) → List·Mem s (streams-of table) → first ≤ due s
+  pub counts : 0 < future (streams-of table) first
+  pub after : x < first
+  pub near : first ≤ x + 479

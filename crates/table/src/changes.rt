@@ -1,0 +1,133 @@
+// The table's changes: a stream put in, one taken out, and one served.
+ghost use Prim.Native.Nat.{_≤_};
+ghost use Rattle.table.specs.Table.{streams-of, stream-of};
+ghost use Rattle.table.specs.Changes.{IsPlaceOf, IsStreamOf, HasStreams, CanPut, CanChange, CanServe, put-by-id, without-id, serve};
+ghost use Rattle.table.specs.Places.{IsPlaceBefore, CanOpen, opened, CanClose, closed};
+use super::Stream;
+use super::Table;
+
+// The place of an id, or the count where no stream has it.
+pub fn place_of_in_range(table: Table, id: u32) -> usize
+    requires { ⌜ table .count ≤ 64 ⌝ }
+    ensures { λ r. ⌜ IsPlaceOf table id r ⌝ }
+{
+    let streams = table.streams;
+    let mut i: usize = 0;
+    while i < table.count {
+        let stream = streams[i];
+        if stream.id == id {
+            return i;
+        }
+        i += 1;
+    }
+    table.count
+}
+
+// The stream of an id.
+pub fn find_in_range(table: Table, id: u32) -> Stream
+    requires { ⌜ CanChange table id ⌝ }
+    ensures { λ r. ⌜ IsStreamOf (streams-of table) id (stream-of r) ⌝ }
+{
+    let place = place_of_in_range(table, id);
+    let streams = table.streams;
+    streams[place]
+}
+
+// The place falls free and the later streams move one place down.
+fn closed_in_range(table: Table, place: usize) -> Table
+    requires { ⌜ CanClose table place ⌝ }
+    ensures { λ r. ⌜ HasStreams (closed place (streams-of table)) r ⌝ }
+{
+    let mut streams = table.streams;
+    let last = table.count - 1;
+    let mut i = place;
+    while i < last {
+        let later = streams[i + 1];
+        streams[i] = later;
+        i += 1;
+    }
+    streams[last] = Stream {
+        id: 0,
+        period: 0,
+        deadline: 0,
+        release: 0,
+    };
+    Table {
+        count: last,
+        streams,
+    }
+}
+
+// The stream of an id taken out; the place that falls free gets zeros.
+pub fn take_out_in_range(table: Table, id: u32) -> Table
+    requires { ⌜ CanChange table id ⌝ }
+    ensures { λ r. ⌜ HasStreams (without-id id (streams-of table)) r ⌝ }
+{
+    let place = place_of_in_range(table, id);
+    closed_in_range(table, place)
+}
+
+// The first place with a greater id, or the count.
+fn place_before_in_range(table: Table, id: u32) -> usize
+    requires { ⌜ table .count ≤ 64 ⌝ }
+    ensures { λ r. ⌜ IsPlaceBefore table id r ⌝ }
+{
+    let streams = table.streams;
+    let mut i: usize = 0;
+    while i < table.count {
+        let stream = streams[i];
+        if id < stream.id {
+            return i;
+        }
+        i += 1;
+    }
+    table.count
+}
+
+// The streams from the place on move one place up and the stream goes there.
+fn opened_in_range(table: Table, place: usize, stream: Stream) -> Table
+    requires { ⌜ CanOpen table place ⌝ }
+    ensures { λ r. ⌜ HasStreams (opened place (stream-of stream) (streams-of table)) r ⌝ }
+{
+    let mut streams = table.streams;
+    let mut i = table.count;
+    while place < i {
+        let moved = streams[i - 1];
+        streams[i] = moved;
+        i -= 1;
+    }
+    streams[place] = stream;
+    Table {
+        count: table.count + 1,
+        streams,
+    }
+}
+
+// A stream put at its place by ascending id.
+pub fn put_in_range(table: Table, stream: Stream) -> Table
+    requires { ⌜ CanPut table ⌝ }
+    ensures { λ r. ⌜ HasStreams (put-by-id (stream-of stream) (streams-of table)) r ⌝ }
+{
+    let place = place_before_in_range(table, stream.id);
+    opened_in_range(table, place, stream)
+}
+
+// The stream of an id at its next packet.
+pub fn serve_in_range(table: Table, id: u32) -> Table
+    requires { ⌜ CanServe table id ⌝ }
+    ensures { λ r. ⌜ HasStreams (serve id (streams-of table)) r ⌝ }
+{
+    let place = place_of_in_range(table, id);
+    let mut streams = table.streams;
+    let stream = streams[place];
+    streams[place] = Stream {
+        id: stream.id,
+        period: stream.period,
+        deadline: stream.deadline,
+        release: stream.release + stream.period,
+    };
+    Table {
+        count: table.count,
+        streams,
+    }
+}

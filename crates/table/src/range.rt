@@ -1,0 +1,95 @@
+// Whether a table is in range, on any value whatever: no sum is formed that could overflow.
+use super::Stream;
+use super::Table;
+ghost use Rattle.basics.specs.Decides.{Decides};
+ghost use Rattle.table.specs.Table.{stream-of};
+ghost use Rattle.table.specs.Range.{StreamInRange, TableInRange};
+ghost use Rattle.table.specs.RangeTests.{OneTo, DueAfterNow, ReleasedSoon, IsNear, CanFollow};
+
+// Whether a number is 1 to a limit.
+pub fn is_one_to(n: u32, most: u32) -> bool
+    ensures { λ r. ⌜ Decides r (OneTo most n) ⌝ }
+{
+    if n < 1 {
+        return false;
+    }
+    n <= most
+}
+
+// The frame is divided only once the period is known not to be 0.
+fn stream_in_range(stream: Stream, frame: u32) -> bool
+    ensures { λ r. ⌜ Decides r (StreamInRange frame (stream-of stream)) ⌝ }
+{
+    if !is_one_to(stream.id, 32767) {
+        return false;
+    }
+    if !is_one_to(stream.period, 240) {
+        return false;
+    }
+    if frame % stream.period != 0 {
+        return false;
+    }
+    is_one_to(stream.deadline, stream.period)
+}
+
+// Release and deadline are not added up: a release after now is enough.
+fn is_due_after(stream: Stream, now: u32) -> bool
+    ensures { λ r. ⌜ Decides r (DueAfterNow now (stream-of stream)) ⌝ }
+{
+    if now < stream.release {
+        return true;
+    }
+    now - stream.release < stream.deadline
+}
+
+fn is_released_soon(stream: Stream, now: u32) -> bool
+    ensures { λ r. ⌜ Decides r (ReleasedSoon now (stream-of stream)) ⌝ }
+{
+    if stream.release < 239 {
+        return true;
+    }
+    stream.release - 239 <= now
+}
+
+fn is_near(stream: Stream, now: u32) -> bool
+    ensures { λ r. ⌜ Decides r (IsNear now (stream-of stream)) ⌝ }
+{
+    if !is_due_after(stream, now) {
+        return false;
+    }
+    is_released_soon(stream, now)
+}
+
+// Whether a stream is in range and near, and its id is greater than the one before.
+fn can_follow(stream: Stream, before: u32, frame: u32, now: u32) -> bool
+    ensures { λ r. ⌜ Decides r (CanFollow frame now before (stream-of stream)) ⌝ }
+{
+    if stream.id <= before {
+        return false;
+    }
+    if !stream_in_range(stream, frame) {
+        return false;
+    }
+    is_near(stream, now)
+}
+
+// Whether the table's count, its streams, and the unserved packets they hold are in range, on any value whatever.
+pub fn in_range(table: Table, frame: u32, now: u32) -> bool
+    ensures { λ r. ⌜ Decides r (TableInRange frame now table) ⌝ }
+{
+    if 64 < table.count {
+        return false;
+    }
+    let streams = table.streams;
+    let mut before: u32 = 0;
+    let mut i: usize = 0;
+    while i < table.count {
+        let stream = streams[i];
+        if !can_follow(stream, before, frame, now) {
+            return false;
+        }
+        before = stream.id;
+        i += 1;
+    }
+    true
+}

@@ -1,0 +1,89 @@
+// The start rule and the lazy rule on a table: the lengths looked at are a busy length of them from the first due time on.
+use super::Column;
+use super::Stream;
+use super::Table;
+use super::column_in_range;
+use super::lengths::Walk;
+use super::lengths::advance;
+ghost use mathlib.Core.Path.{_≡_};
+ghost use Prim.Native.Nat.{_≤_, min};
+ghost use Rattle.rules.specs.Demand.{ceil};
+ghost use Rattle.table.specs.Table.{streams-of};
+ghost use Rattle.table.specs.Lengths.{CanFindStart, IsNextStart};
+ghost use Rattle.table.specs.Start.{IsLeastOf, CanLookFrom};
+
+fn lesser(x: u32, y: u32) -> u32
+    ensures { λ r. ⌜ r ≡ min y x ⌝ }
+{
+    if y < x {
+        return y;
+    }
+    x
+}
+
+// The least of the first values.
+fn least_of(values: [u32; 64], count: usize) -> u32
+    requires { ⌜ (1 ≤ count) × (count ≤ 64) ⌝ }
+    ensures { λ r. ⌜ IsLeastOf values count r ⌝ }
+{
+    let mut least = values[0];
+    let mut i: usize = 1;
+    while i < count {
+        least = lesser(least, values[i]);
+        i += 1;
+    }
+    least
+}
+
+// How many rounds of that many slots the packets take.
+fn rounds_for(packets: u32, slots: u32) -> u32
+    requires { ⌜ (packets ≤ 2_000_000_000) × ((1 ≤ slots) × (slots ≤ 64)) ⌝ }
+    ensures { λ r. ⌜ r ≡ ceil packets slots ⌝ }
+{
+    (packets + (slots - 1)) / slots
+}
+
+// What next_start_in_range answers, where `first` is the first due time.
+fn start_from(
+    table: Table,
+    dues: [u32; 64],
+    slots: u32,
+    now: u32,
+    cap: u32,
+    first: u32,
+    busy: u32,
+) -> u32
+    requires { ⌜ CanLookFrom slots now cap first busy table dues ⌝ }
+    ensures { λ r. ⌜ IsNextStart slots now cap (streams-of table) r ⌝ }
+{
+    let end = first + busy;
+    let mut walk = Walk {
+        times: dues,
+        sum: 0,
+    };
+    let mut start = cap;
+    let mut t = first;
+    while t < end {
+        walk = advance(table, walk, t);
+        let needed = rounds_for(walk.sum, slots);
+        if t < now + needed {
+            return 0;
+        }
+        start = lesser(start, t - needed);
+        t += 1;
+    }
+    start
+}
+
+// The lazy start, or 0 if the start rule fails.
+pub fn next_start_in_range(table: Table, slots: u32, now: u32, cap: u32, busy: u32) -> u32
+    requires { ⌜ CanFindStart slots now cap busy table ⌝ }
+    ensures { λ r. ⌜ IsNextStart slots now cap (streams-of table) r ⌝ }
+{
+    if table.count == 0 {
+        return cap;
+    }
+    let dues = column_in_range(table, Column::Due);
+    let first = least_of(dues, table.count);
+    start_from(table, dues, slots, now, cap, first, busy)
+}

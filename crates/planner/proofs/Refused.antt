@@ -1,10 +1,13 @@
--- The answers of open: each test of the code, in its order, is a refusal of the list.
-use mathlib.Core.Path.{_≡_, sym, _∙_}
+-- The answers of open: each test of the code, in its order, is a refusal of the list. And what a refused change and one that is done leave.
+use mathlib.Core.Path.{_≡_, refl, sym, _∙_}
 use mathlib.Core.List.{List, [], _∷_}
 use Prim.Native.Nat.{ℕ, _≤_, _<_}
 use native.Mathlib.Nat.{lt-irrefl, lt-of-lt-of-le}
 use Rattle.basics.specs.Refusals.{Refusal, answer-of, answer-first, answer-later}
 use Rattle.planner.specs.Open.{not-in, late, open-refusals, opened, closed, IsFresh, IsOpened}
+use Rattle.planner.specs.OpenFacts.{NumbersInRange, open-in-range}
+use Rattle.planner.specs.Content.{Content}
+use Rattle.planner.specs.Sound.{InRange}
 use Rattle.planner.specs.declared.Planner.{Planner}
 
 -- a number out of its range is refused, and one in it passes
@@ -67,3 +70,11 @@ module _ (b f g t : ℕ) where
 
   pub open-done : (a : ℕ) (p : Planner) → a ≡ answer-of (open-refusals b f g t) → a ≡ 0 → IsFresh b f g t p → IsOpened b f g t (record { answer = 0; planner = p })
   open-done a p is zero fresh = record { answer = sym zero ∙ is; opened = λ _. fresh; closed = λ some. absurd (some (sym is ∙ zero)) }
+
+  -- the code's answer tells whether the numbers are in range
+  pub opened-range : (a : ℕ) → a ≡ answer-of (open-refusals b f g t) → a ≡ 0 → NumbersInRange b f g t
+  opened-range a is zero = open-in-range b f g t (sym is ∙ zero)
+
+-- a planner whose numbers open would refuse is not in range
+pub not-opened : (h : Content) (a : ℕ) → a ≡ answer-of (open-refusals (h .slots) (h .frame) (h .gap) (h .last)) → (a ≡ 0 → ⊥) → InRange h → ⊥
+not-opened h a is some range = some (is ∙ sym (open-passes (h .slots) (h .frame) (h .gap) (h .last) (range .slots) (range .frame) (range .gap) (range .last)))

@@ -1,5 +1,22 @@
--- The planner's definitions, and the laws about them.
+-- The planner. A reader has to believe Content, Sound, Open, Calls and Round; the rest is proved of them, or is what inner functions promise one another.
 pub mod Content
 pub mod Sound
+pub mod Decide
+pub mod TableFacts
+pub mod SoundFacts
 pub mod Open
+pub mod Calls
+pub mod Round
 pub mod OpenFacts
+pub mod CallFacts
+pub mod SlotWalk
+pub mod Kept
+pub mod FilesFacts
+pub mod SoundTest
+pub mod ServeFacts
+pub mod ChangeFacts
+pub mod AddFacts
+pub mod Chosen
+pub mod ChooseFacts
+pub mod ServingFacts
+pub mod RoundFacts

@@ -6,6 +6,7 @@ use Prim.Native.Nat.{ℕ, _≤_, _<_}
 use native.Mathlib.Decide.{decLe, decLt}
 use lib.ListN.{replicate}
 use Rattle.basics.specs.Refusals.{Refusal, answer-of}
+use Rattle.table.specs.Table.{no-stream}
 use Rattle.queue.specs.Calls.{HasEntries}
 use Rattle.planner.specs.Content.{Content, content}
 use Rattle.planner.specs.declared.Planner.{Planner}
@@ -34,8 +35,7 @@ closed = opened 0 0 0 0
 -- A planner with these numbers, no stream, zeros at every place for one, and an empty queue.
 pub record IsFresh (b f g t : ℕ) (p : Planner) : Type 0 where
   pub holds : content p ≡ opened b f g t
-  pub count : p .count ≡ 0
-  pub places : p .streams ≡ replicate 64 (record { id = 0; period = 0; deadline = 0; release = 0 })
+  pub table : p .table ≡ record { count = 0; streams = replicate 64 no-stream }
   pub queue : HasEntries (p .queue) []
 
 -- Open gives the answer of its refusals; the planner holds what was passed, or is the closed one if refused.

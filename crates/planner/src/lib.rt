@@ -3,24 +3,26 @@ ghost use mathlib.Core.Path.{_≡_};
 ghost use lib.ListN.{take};
 ghost use Rattle.basics.specs.Refusals.{answer-of};
 ghost use Rattle.planner.specs.Open.{open-refusals, IsFresh, IsOpened};
+ghost use Rattle.planner.specs.Calls.{IsAdd, IsRemove};
+ghost use Rattle.planner.specs.Round.{IsRound};
+ghost use Rattle.planner.specs.SoundTest.{IsSoundStart};
+ghost use Rattle.planner.specs.RoundFacts.{IsRoundAnswer};
 use queue::Queue;
+use table::Stream;
+use table::Table;
 
-// A stream, with the release of its first unserved packet.
-pub struct Stream {
-    pub id: u32,
-    pub period: u32,
-    pub deadline: u32,
-    pub release: u32,
-}
+mod offers;
+mod removal;
+mod slots;
+mod soundness;
 
-// B, F, G and L, the streams in ascending id in the first `count` places, and the queue that files them under their due times.
+// B, F, G and L, the streams in ascending id, and the queue that files them under their due times.
 pub struct Planner {
     pub slots: u32,
     pub frame: u32,
     pub gap: u32,
     pub last: u32,
-    pub count: u32,
-    pub streams: [Stream; 64],
+    pub table: Table,
     pub queue: Queue,
 }
 
@@ -28,6 +30,14 @@ pub struct Planner {
 pub struct Changed {
     pub answer: u32,
     pub planner: Planner,
+}
+
+// What a round answers: its start and the count of ids written, both 0 if refused, and the planner after it.
+pub struct Rounded {
+    pub answer: u32,
+    pub planner: Planner,
+    pub start: u32,
+    pub n: u32,
 }
 
 // A planner with no stream.
@@ -40,14 +50,15 @@ fn without_streams(slots: u32, frame: u32, gap: u32, last: u32) -> Planner
         deadline: 0,
         release: 0,
     };
+    let streams = [none; 64];
+    let table = Table { count: 0, streams };
     let queue = queue::empty();
     Planner {
         slots,
         frame,
         gap,
         last,
-        count: 0,
-        streams: [none; 64],
+        table,
         queue,
     }
 }
@@ -90,6 +101,77 @@ pub fn open(slots: u32, frame: u32, gap: u32, last: u32) -> Changed
     }
     let planner = without_streams(slots, frame, gap, last);
     Changed { answer: 0, planner }
+}
+
+// Takes a stream in: its first packet is released at `start`.
+pub fn add(p: Planner, id: u32, start: u32, period: u32, deadline: u32) -> Changed
+    ensures { λ r. ⌜ IsAdd p id start period deadline r ⌝ }
+{
+    let answer = offers::add_refusal(p, id, start, period, deadline);
+    if answer != 0 {
+        return Changed { answer, planner: p };
+    }
+    let planner = offers::add_sound(p, id, start, period, deadline);
+    Changed { answer: 0, planner }
+}
+
+// Takes a stream out, and its waiting packet with it.
+pub fn remove(p: Planner, id: u32) -> Changed
+    ensures { λ r. ⌜ IsRemove p id r ⌝ }
+{
+    let answer = removal::remove_refusal(p, id);
+    if answer != 0 {
+        return Changed { answer, planner: p };
+    }
+    let planner = removal::remove_sound(p, id);
+    Changed { answer: 0, planner }
+}
+
+// What round refuses, once the test of soundness has given the start.
+fn round_refusal_tested(p: Planner, start: u32, length: usize) -> u32
+    requires { ⌜ IsSoundStart p start ⌝ }
+    ensures { λ r. ⌜ IsRoundAnswer p length r ⌝ }
+{
+    if start == 0 {
+        return 5;
+    }
+    let table = p.table;
+    if table.count == 0 {
+        return 15;
+    }
+    if length < p.slots as usize {
+        return 16;
+    }
+    if 1000000000 < start {
+        return 17;
+    }
+    0
+}
+
+// Holds the next round: its ids go to the first n places of the buffer.
+pub fn round(p: Planner, buffer: &mut [u16]) -> Rounded
+    ensures { λ r. ⌜ IsRound p (now (buffer .entry)) (now (buffer .exit)) r ⌝ }
+{
+    let start = soundness::sound_start(p);
+    let answer = round_refusal_tested(p, start, buffer.len());
+    if answer != 0 {
+        return Rounded {
+            answer,
+            planner: p,
+            start: 0,
+            n: 0,
+        };
+    }
+    let chosen = slots::choose_sound(p, start);
+    let ids = chosen.ids;
+    slots::write_ids_in_range(buffer, ids, chosen.n);
+    let planner = slots::serve_sound(p, chosen, start);
+    Rounded {
+        answer: 0,
+        planner,
+        start,
+        n: chosen.n as u32,
+    }
 }
 
 // The part of the slot buffer that a round filled: its first n places, or all of it if n is above its length.

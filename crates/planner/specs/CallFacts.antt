@@ -1,0 +1,104 @@
+-- What follows from a call's contract in terms of its answer: a refused call changes nothing, and a sound planner stays sound.
+use mathlib.Core.Path.{_≡_, sym, subst, subst⁻¹, _∙_}
+use mathlib.Core.Logic.{_↔_}
+use mathlib.Core.List.{List, [], _∷_}
+use Prim.Native.Nat.{ℕ, _≤_, _<_}
+use native.Mathlib.Decide.{ℕ-discrete}
+use native.Mathlib.Omega.{arith}
+use lib.ListN.{length}
+use Rattle.basics.specs.Refusals.{Refusal, FirstOf, answer-of, answer-is-first, answer-first, answer-later, answer-zero, answer-other, AllPass, answer-after}
+use Rattle.rules.specs.LazyStart.{lazy-unique}
+use Rattle.planner.specs.Content.{Content, content, cap-of}
+use Rattle.planner.specs.Sound.{Sound}
+use Rattle.planner.specs.Decide.{decide-sound}
+use Rattle.planner.specs.Calls.{unsound, IsSoundWith, IsChange}
+use Rattle.planner.specs.Round.{IsStart, StartsLate, decide-late, no-stream-held, short-buffer, late-start, round-refusals, IsRefusedRound, IsHeldRound, IsRound}
+use Rattle.planner.specs.declared.Planner.{Planner}
+use Rattle.planner.specs.declared.Changed.{Changed}
+use Rattle.planner.specs.declared.Rounded.{Rounded}
+
+-- an answer given by the refusals is the first number that applies
+pub answers-first : {refusals : List Refusal} {n : ℕ} → n ≡ answer-of refusals → FirstOf refusals n
+answers-first {refusals} answer = subst⁻¹ (FirstOf refusals) answer (answer-is-first refusals)
+
+-- a planner is sound after a call that hands a sound one back if refused, and a sound one if not
+sound-either-way : (n : ℕ) (p q : Planner) → ((n ≡ 0 → ⊥) → q ≡ p) → (n ≡ 0 → Sound q) → Sound p → Sound q
+sound-either-way n p q refused succeeded sound = go (ℕ-discrete n 0)
+  where
+    go : Dec (n ≡ 0) → Sound q
+    go (yes zero) = succeeded zero
+    go (no other) = subst⁻¹ Sound (refused other) sound
+
+module _ {refusals : List Refusal} {p : Planner} {h : Content} {r : Changed} (is : IsChange refusals p h r) where
+  pub refused-change : (r .answer ≡ 0 → ⊥) → r .planner ≡ p
+  refused-change nonzero = is .refused (λ zero. nonzero (is .answer ∙ zero))
+
+  pub success-change : r .answer ≡ 0 → IsSoundWith h (r .planner)
+  success-change zero = is .changed (sym (is .answer) ∙ zero)
+
+  pub change-keeps-sound : Sound p → Sound (r .planner)
+  change-keeps-sound = sound-either-way (r .answer) p (r .planner) refused-change (λ zero. success-change zero .sound)
+
+module _ {p : Planner} {before after : List ℕ} {r : Rounded} (is : IsRound p before after r) where
+  pub refused-round : (r .answer ≡ 0 → ⊥) → IsRefusedRound p before after r
+  refused-round nonzero = is .refused (λ zero. nonzero (is .answer ∙ zero))
+
+  pub success-round : r .answer ≡ 0 → IsHeldRound p before after r
+  success-round zero = is .held (sym (is .answer) ∙ zero)
+
+  pub round-keeps-sound : Sound p → Sound (r .planner)
+  round-keeps-sound = sound-either-way (r .answer) p (r .planner) (λ nonzero. refused-round nonzero .planner) (λ zero. success-round zero .planner .sound)
+
+-- the start of a sound planner tells whether it starts late
+pub starts-late-iff : (p : Planner) → Sound p → (s : ℕ) → IsStart (content p) s → StartsLate p ↔ (1_000_000_000 < s)
+starts-late-iff p sound s start = (
+  λ late. late sound s start,
+  λ late _ x other. subst (λ (y : ℕ). 1_000_000_000 < y) (lazy-unique (content p .slots) (cap-of (content p)) (content p .table) s x start other) late,
+)
+
+module _ (p : Planner) (buffer : List ℕ) where
+  -- an answer other than 5, 15 and 16 is that of the last refusal
+  by-last-refusal : (n : ℕ) → (5 ≡ n → ⊥) → (15 ≡ n → ⊥) → (16 ≡ n → ⊥) → answer-of (round-refusals p buffer) ≡ n → answer-of (late-start p ∷ []) ≡ n
+  by-last-refusal n not-5 not-15 not-16 given =
+      let sound = answer-other n (unsound p) (no-stream-held (content p) ∷ short-buffer (content p) buffer ∷ late-start p ∷ []) not-5 given in
+      let some = answer-other n (no-stream-held (content p)) (short-buffer (content p) buffer ∷ late-start p ∷ []) not-15 (sound .1) in
+      answer-other n (short-buffer (content p) buffer) (late-start p ∷ []) not-16 (some .1) .1
+
+  pub held-is-not-late : answer-of (round-refusals p buffer) ≡ 0 → StartsLate p → ⊥
+  held-is-not-late none = answer-zero (late-start p) [] (λ e. omega (arith, e)) (by-last-refusal 0 (λ e. omega (arith, e)) (λ e. omega (arith, e)) (λ e. omega (arith, e)) none) .0
+
+  pub seventeen-is-late : answer-of (round-refusals p buffer) ≡ 17 → StartsLate p
+  unfolding answer-of
+  seventeen-is-late given = go (decide-late p (decide-sound p))
+    where
+      go : Dec (StartsLate p) → StartsLate p
+      go (yes late) = late
+      go (no early) =
+          let last : answer-of [] ≡ 17 = sym (answer-later (late-start p) [] early) ∙ by-last-refusal 17 (λ e. omega (arith, e)) (λ e. omega (arith, e)) (λ e. omega (arith, e)) given in
+          absurd (omega (arith, last))
+
+  module _ (sound : Sound p) (some : 1 ≤ length (content p .table)) (long : content p .slots ≤ length buffer) (s : ℕ) (start : IsStart (content p) s) where
+    -- on a sound planner with a stream and a long enough buffer only 17 is left to be asked
+    only-17-left : answer-of (round-refusals p buffer) ≡ answer-of (late-start p ∷ [])
+    unfolding AllPass
+    only-17-left =
+        answer-after (unsound p ∷ no-stream-held (content p) ∷ short-buffer (content p) buffer ∷ []) (late-start p ∷ [])
+        (λ fails. fails sound, (λ none. omega (arith, none), (λ short. omega arith, tt)))
+
+    -- so a round is refused with 17 exactly if the start is after the last one ..
+    pub seventeen-exactly : (answer-of (round-refusals p buffer) ≡ 17) ↔ (1_000_000_000 < s)
+    seventeen-exactly = (
+      λ given. starts-late-iff p sound s start .0 (seventeen-is-late given),
+      λ late. only-17-left ∙ answer-first (late-start p) [] (starts-late-iff p sound s start .1 late),
+    )
+
+    -- .. and held exactly if not
+    pub held-exactly : (answer-of (round-refusals p buffer) ≡ 0) ↔ (s ≤ 1_000_000_000)
+    unfolding answer-of
+    held-exactly = (
+      λ none. in-time (λ late. held-is-not-late none (starts-late-iff p sound s start .1 late)),
+      λ early. only-17-left ∙ answer-later (late-start p) [] (λ late. let after-the-last = starts-late-iff p sound s start .0 late in omega arith),
+    )
+      where
+        in-time : (1_000_000_000 < s → ⊥) → s ≤ 1_000_000_000
+        in-time not-late = omega arith

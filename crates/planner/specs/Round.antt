@@ -1,0 +1,83 @@
+-- What round answers and leaves, as document 01 says it under "Round".
+use mathlib.Core.Path.{_≡_, subst}
+use mathlib.Core.List.{List, [], _∷_, _++_, map}
+use Prim.Native.Nat.{ℕ, _+_, _<_}
+use native.Mathlib.Nat.{le-trans}
+use native.Mathlib.Decide.{decLt, ℕ-discrete}
+use native.Mathlib.Omega.{arith}
+use lib.ListN.{length, drop}
+use Rattle.basics.specs.Refusals.{Refusal, answer-of}
+use Rattle.rules.specs.Streams.{Stream}
+use Rattle.rules.specs.Demand.{IsLazyStart}
+use Rattle.rules.specs.Slots.{slots, after-round}
+use Rattle.rules.specs.LazyStart.{lazy-unique}
+use Rattle.planner.specs.Content.{Content, content, cap-of}
+use Rattle.planner.specs.Sound.{Sound}
+use Rattle.planner.specs.Decide.{decide-sound}
+use Rattle.planner.specs.SoundFacts.{sound-start}
+use Rattle.planner.specs.Calls.{unsound, IsSoundWith}
+use Rattle.planner.specs.declared.Planner.{Planner}
+use Rattle.planner.specs.declared.Rounded.{Rounded}
+
+-- The start that the lazy rule gives: "the least of L + G and all t - ceil(h(t) / B) with h(t) > 0".
+abbrev pub IsStart : Content → ℕ → Type 0
+IsStart h s = IsLazyStart (h .slots) (cap-of h) (h .table) s
+
+-- The start of a sound planner is after the last one, 1,000,000,000.
+abbrev pub StartsLate : Planner → Type 0
+StartsLate p = Sound p → (s : ℕ) → IsStart (content p) s → 1_000_000_000 < s
+
+pub decide-late : (p : Planner) → Dec (Sound p) → Dec (StartsLate p)
+decide-late p (no unsound) = yes (λ sound. absurd (unsound sound))
+decide-late p (yes sound) = go (sound-start p sound)
+  where
+    go : ((s : ℕ) × IsStart (content p) s) → Dec (StartsLate p)
+    go (s, lazy) = at (decLt 1_000_000_000 s)
+      where
+        at : Dec (1_000_000_000 < s) → Dec (StartsLate p)
+        at (yes late) = yes (λ _ x is. subst (λ (y : ℕ). 1_000_000_000 < y) (lazy-unique (content p .slots) (cap-of (content p)) (content p .table) s x lazy is) late)
+        at (no early) = no (λ all. early (all sound s lazy))
+
+-- 01: "15 with no stream held".
+abbrev pub no-stream-held : Content → Refusal
+no-stream-held h = record { number = 15; Applies = length (h .table) ≡ 0; decided = ℕ-discrete (length (h .table)) 0 }
+
+-- 01: "16 for a buffer shorter than B".
+abbrev pub short-buffer : Content → List ℕ → Refusal
+short-buffer h buffer = record { number = 16; Applies = length buffer < h .slots; decided = decLt (length buffer) (h .slots) }
+
+-- 01: "17 if the start is after 1,000,000,000".
+abbrev pub late-start : Planner → Refusal
+late-start p = record { number = 17; Applies = StartsLate p; decided = decide-late p (decide-sound p) }
+
+-- 01: "It refuses 5; 15 ..; 16 ..; 17 ..".
+abbrev pub round-refusals : Planner → List ℕ → List Refusal
+round-refusals p buffer = unsound p ∷ no-stream-held (content p) ∷ short-buffer (content p) buffer ∷ late-start p ∷ []
+
+-- The ids that a round at s writes: those of its slots, in their order.
+abbrev pub ids-at : Content → ℕ → List ℕ
+ids-at h s = map (λ (x : Stream). x .number) (slots (h .slots) s (h .table))
+
+-- What the planner holds after a round at s: L is s, and each stream served is at its next packet.
+abbrev pub rounded : Content → ℕ → Content
+rounded h s = record { slots = h .slots; frame = h .frame; gap = h .gap; last = s; table = after-round (h .slots) s (h .table) }
+
+-- 01: "A refusal gives start 0 and count 0", "hands back the planner .. unchanged and writes nothing".
+pub record IsRefusedRound (p : Planner) (before after : List ℕ) (r : Rounded) : Type 0 where
+  pub planner : r .planner ≡ p
+  pub start : r .start ≡ 0
+  pub n : r .n ≡ 0
+  pub buffer : after ≡ before
+
+-- 01: "The answer is the start and the count n; the ids stand in the first n places, and later places are untouched."
+pub record IsHeldRound (p : Planner) (before after : List ℕ) (r : Rounded) : Type 0 where
+  pub start : IsStart (content p) (r .start)
+  pub n : r .n ≡ length (ids-at (content p) (r .start))
+  pub buffer : after ≡ ids-at (content p) (r .start) ++ drop (r .n) before
+  pub planner : IsSoundWith (rounded (content p) (r .start)) (r .planner)
+
+-- A round gives the answer of its refusals, and is refused or held as that says.
+pub record IsRound (p : Planner) (before after : List ℕ) (r : Rounded) : Type 0 where
+  pub answer : r .answer ≡ answer-of (round-refusals p before)
+  pub refused : (answer-of (round-refusals p before) ≡ 0 → ⊥) → IsRefusedRound p before after r
+  pub held : answer-of (round-refusals p before) ≡ 0 → IsHeldRound p before after r

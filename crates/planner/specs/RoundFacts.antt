@@ -1,0 +1,110 @@
+-- The answers of round, and what it hands back.
+use mathlib.Core.Path.{_≡_, refl, sym, ap, _∙_}
+use mathlib.Core.Logic.{Dec·not-not}
+use mathlib.Core.List.{List, [], _∷_, _++_}
+use Prim.Native.Nat.{ℕ, _≤_, _<_}
+use native.Mathlib.Nat.{lt-irrefl}
+use native.Mathlib.Omega.{arith}
+use lib.ListN.{length, take, drop}
+use Rattle.basics.specs.Refusals.{answer-of, answer-zero, none, here, later, first-is-answer}
+use Rattle.planner.specs.Content.{content}
+use Rattle.planner.specs.Sound.{Sound}
+use Rattle.planner.specs.Decide.{decide-sound}
+use Rattle.planner.specs.Calls.{unsound, IsSoundWith}
+use Rattle.planner.specs.Round.{no-stream-held, short-buffer, late-start, round-refusals, rounded, IsRound}
+use Rattle.planner.specs.CallFacts.{starts-late-iff, held-is-not-late}
+use Rattle.planner.specs.SoundTest.{IsSoundStart}
+use Rattle.planner.specs.Chosen.{CanChoose, IsChosen, CanServeAll}
+use Rattle.planner.specs.declared.Planner.{Planner}
+use Rattle.planner.specs.declared.slots.Chosen.{Chosen}
+
+above : (m n : ℕ) → (m < n → ⊥) → n ≤ m
+above m n not-less = omega arith
+
+-- The answer of round for a buffer of this length.
+abbrev pub IsRoundAnswer : Planner → ℕ → ℕ → Type 0
+IsRoundAnswer p n r = (buffer : List ℕ) → length buffer ≡ n → r ≡ answer-of (round-refusals p buffer)
+
+module _ (p : Planner) (start : ℕ) (test : IsSoundStart p start) where
+  pub no-sound-start : start ≡ 0 → (buffer : List ℕ) → 5 ≡ answer-of (round-refusals p buffer)
+  no-sound-start zero buffer = first-is-answer (here (test .unsound zero))
+
+  module _ (some : 1 ≤ start) where
+    passes-5 : (Sound p → ⊥) → ⊥
+    passes-5 not-sound = not-sound (test .sound some)
+
+    pub empty-table : length (content p .table) ≡ 0 → (buffer : List ℕ) → 15 ≡ answer-of (round-refusals p buffer)
+    empty-table empty buffer = first-is-answer (later passes-5 (here empty))
+
+    module _ (streams : length (content p .table) ≡ 0 → ⊥) (buffer : List ℕ) where
+      pub too-short : length buffer < p .slots → 16 ≡ answer-of (round-refusals p buffer)
+      too-short short = first-is-answer (later passes-5 (later streams (here short)))
+
+      module _ (long : p .slots ≤ length buffer) where
+        not-short : length buffer < p .slots → ⊥
+        not-short short = lt-irrefl (length buffer) (omega (arith, short, long))
+
+        pub too-late : 1_000_000_000 < start → 17 ≡ answer-of (round-refusals p buffer)
+        too-late late =
+            first-is-answer (later passes-5 (later streams (later not-short
+            (here (starts-late-iff p (test .sound some) start (test .start some) .1 late)))))
+
+        pub round-passes : start ≤ 1_000_000_000 → 0 ≡ answer-of (round-refusals p buffer)
+        round-passes early =
+            first-is-answer (later passes-5 (later streams (later not-short
+            (later (λ late. lt-irrefl 1_000_000_000 (omega (arith, early, late (test .sound some) start (test .start some)))) none))))
+
+  module _ (buffer : List ℕ) (a : ℕ) (is : a ≡ answer-of (round-refusals p buffer)) where
+    -- a refused round hands everything back
+    pub round-refused : (a ≡ 0 → ⊥) → IsRound p buffer buffer (record { answer = a; planner = p; start = 0; n = 0 })
+    round-refused some =
+        record { answer = is; refused = λ _. record { planner = refl; start = refl; n = refl; buffer = refl }; held = λ zero. absurd (some (is ∙ zero)) }
+
+    module _ (passed : a ≡ 0) where
+      -- with answer 0 no refusal applies
+      after-5 : (((Sound p → ⊥) → ⊥) × (answer-of (no-stream-held (content p) ∷ short-buffer (content p) buffer ∷ late-start p ∷ []) ≡ 0))
+      after-5 = answer-zero (unsound p) (no-stream-held (content p) ∷ short-buffer (content p) buffer ∷ late-start p ∷ []) (λ e. lt-irrefl 0 (omega (arith, e))) (sym is ∙ passed)
+
+      after-15 : (length (content p .table) ≡ 0 → ⊥) × (answer-of (short-buffer (content p) buffer ∷ late-start p ∷ []) ≡ 0)
+      after-15 = answer-zero (no-stream-held (content p)) (short-buffer (content p) buffer ∷ late-start p ∷ []) (λ e. lt-irrefl 0 (omega (arith, e))) (after-5 .1)
+
+      after-16 : (length buffer < p .slots → ⊥) × (answer-of (late-start p ∷ []) ≡ 0)
+      after-16 = answer-zero (short-buffer (content p) buffer) (late-start p ∷ []) (λ e. lt-irrefl 0 (omega (arith, e))) (after-15 .1)
+
+      is-sound : Sound p
+      is-sound = Dec·not-not (decide-sound p) .0 (after-5 .0)
+
+      found : 1 ≤ start
+      found = positive start (λ zero. test .unsound zero is-sound)
+        where
+          positive : (n : ℕ) → (n ≡ 0 → ⊥) → 1 ≤ n
+          positive n other = omega arith
+
+      pub can-choose : CanChoose p start
+      can-choose = record { sound = is-sound; start = test .start found }
+
+      early : start ≤ 1_000_000_000
+      early = above 1_000_000_000 start (λ late. held-is-not-late p buffer (sym is ∙ passed) (starts-late-iff p is-sound start (test .start found) .1 late))
+
+      pub buffer-long : p .slots ≤ length buffer
+      buffer-long = above (length buffer) (p .slots) (after-16 .0)
+
+      module _ (chosen : Chosen) (is-chosen : IsChosen (content p) start chosen) where
+        pub can-serve-all : CanServeAll p start chosen
+        can-serve-all = record { can-choose = can-choose; by-last = early; is-chosen = is-chosen }
+
+        -- the round as it is held
+        pub round-held : (after : List ℕ) → after ≡ take (chosen .n) (chosen .ids) ++ drop (chosen .n) buffer → (q : Planner) → IsSoundWith (rounded (content p) start) q
+            → IsRound p buffer after (record { answer = 0; planner = q; start = start; n = chosen .n })
+        round-held after written q with-h =
+            record {
+              answer = sym passed ∙ is;
+              refused = λ some. absurd (some (sym is ∙ passed));
+              held = λ _.
+                  record {
+                    start = test .start found;
+                    n = is-chosen .n;
+                    buffer = written ∙ ap (λ (ids : List ℕ). ids ++ drop (chosen .n) buffer) (is-chosen .ids);
+                    planner = with-h;
+                  };
+            }

@@ -1,0 +1,105 @@
+// A stream offered to a planner: whether it is refused, and the planner that takes it in.
+ghost use mathlib.Core.Path.{_≡_};
+ghost use Rattle.basics.specs.Refusals.{answer-of};
+ghost use Rattle.planner.specs.Content.{content};
+ghost use Rattle.planner.specs.Sound.{Sound};
+ghost use Rattle.planner.specs.Calls.{offer-refusals, rule-refusals, add-refusals, added, CanTest, CanAdd, IsSoundWith};
+use super::Planner;
+use super::soundness::sound_start;
+use queue::Queue;
+use table::Stream;
+use table::Table;
+
+// 6 to 11: what speaks of the stream alone. The start is compared with now before anything is added to it.
+fn offer_refusal_sound(p: Planner, id: u32, start: u32, period: u32, deadline: u32) -> u32
+    requires { ⌜ Sound p ⌝ }
+    ensures { λ r. ⌜ r ≡ answer-of (offer-refusals (content p) id start period deadline) ⌝ }
+{
+    if !table::is_one_to(id, 32767) {
+        return 6;
+    }
+    let table = p.table;
+    if table::place_of_in_range(table, id) != table.count {
+        return 7;
+    }
+    if table.count == 64 {
+        return 8;
+    }
+    if !table::is_one_to(period, 240) {
+        return 9;
+    }
+    if p.frame % period != 0 {
+        return 9;
+    }
+    if !table::is_one_to(deadline, period) {
+        return 10;
+    }
+    if start <= p.last {
+        return 11;
+    }
+    if p.last + 240 < start {
+        return 11;
+    }
+    0
+}
+
+// 12 and 13: the two rules on the table with the stream.
+fn rule_refusal_sound(p: Planner, id: u32, start: u32, period: u32, deadline: u32) -> u32
+    requires { ⌜ CanTest p id start period deadline ⌝ }
+    ensures { λ r. ⌜ r ≡ answer-of (rule-refusals (added (content p) id start period deadline)) ⌝ }
+{
+    let stream = Stream {
+        id,
+        period,
+        deadline,
+        release: start,
+    };
+    let held = p.table;
+    let table = table::put_in_range(held, stream);
+    let busy = table::busy_length_in_range(table, p.slots, p.frame);
+    if busy == 0 {
+        return 12;
+    }
+    if table::next_start_in_range(table, p.slots, p.last + 1, p.last + p.gap, busy) == 0 {
+        return 13;
+    }
+    0
+}
+
+pub fn add_refusal(p: Planner, id: u32, start: u32, period: u32, deadline: u32) -> u32
+    ensures { λ r. ⌜ r ≡ answer-of (add-refusals p id start period deadline) ⌝ }
+{
+    if sound_start(p) == 0 {
+        return 5;
+    }
+    let answer = offer_refusal_sound(p, id, start, period, deadline);
+    if answer != 0 {
+        return answer;
+    }
+    rule_refusal_sound(p, id, start, period, deadline)
+}
+
+// The stream goes into the table by its id, and into the queue under its due time.
+pub fn add_sound(p: Planner, id: u32, start: u32, period: u32, deadline: u32) -> Planner
+    requires { ⌜ CanAdd p id start period deadline ⌝ }
+    ensures { λ r. ⌜ IsSoundWith (added (content p) id start period deadline) r ⌝ }
+{
+    let stream = Stream {
+        id,
+        period,
+        deadline,
+        release: start,
+    };
+    let held = p.table;
+    let table = table::put_in_range(held, stream);
+    let filed = p.queue;
+    let queue = queue::insert_sound(filed, id, start + deadline);
+    Planner {
+        slots: p.slots,
+        frame: p.frame,
+        gap: p.gap,
+        last: p.last,
+        table,
+        queue,
+    }
+}

@@ -1,0 +1,205 @@
+-- What a list of calls comes to: lazy rounds one after the other, after which the planner holds what the ids in the buffers say.
+use mathlib.Core.Path.{_≡_, refl, sym, ap, subst, subst⁻¹, _∙_}
+use mathlib.Core.Logic.{⊎-elim, ∥∥₁-map}
+use mathlib.Core.List.{List, [], _∷_, _++_, List·Mem, List·Nodup, map, map-id, map-map, map-append, map-congr-left, mem-map-of-mem, append-assoc}
+use Prim.Native.Nat.{ℕ, _+_, _-_, _≤_, _<_}
+use native.Mathlib.Nat.{lt-irrefl, lt-of-lt-of-le}
+use native.Mathlib.Decide.{decLt}
+use native.Mathlib.Omega.{arith}
+use lib.ListN.{length, take, drop, getD, length-map, List·getD-map}
+use lib.Seq.{take-at}
+use Rattle.rules.specs.Streams.{Stream, Packet, packet, MayRide, PacketOf}
+use Rattle.rules.specs.Slots.{slots, served, Served, passed, after-round}
+use Rattle.rules.specs.Plans.{Round, IsRival}
+use Rattle.rules.specs.Runs.{State, Held, none, then, round-at}
+use Rattle.rules.specs.Sums.{Fits}
+use Rattle.rules.specs.SlotFacts.{IsChoice, choice-differ}
+use Rattle.rules.specs.RoundKept.{round-choice, served-iff}
+use Rattle.rules.specs.PacketFacts.{advanced, advanced-none, packet-advanced, packet-due-after}
+use Rattle.rules.specs.Calls.{IsReadyState}
+use Rattle.rules.specs.Fewest.{held-fewest}
+use Rattle.planner.specs.Content.{Content, content, now-of, cap-of}
+use Rattle.planner.specs.Sound.{ContentSound, Sound}
+use Rattle.planner.specs.SoundFacts.{all-formed, content-ready}
+use Rattle.planner.specs.Round.{IsStart, StartsLate, ids-at, rounded, IsHeldRound}
+use Rattle.planner.specs.CallFacts.{refused-change, refused-round, success-round, held-is-not-late, seventeen-is-late}
+use Rattle.planner.specs.declared.Planner.{Planner}
+use Rattle.planner.specs.declared.Rounded.{Rounded}
+use Rattle.demands.specs.Calls.{HeldRound, held-round, Calls, none, add, remove, refused, held, ClockEnded, times-in, times-sent, IsSentInTime, end-of, start-of}
+use Rattle.demands.specs.CallFacts.{stands-once, stands-never, times-sent-snoc, passes-as-sent, last-of, last-snoc, last-is-end}
+
+-- a stream with the packets sent that the rounds say
+abbrev pub sent-in : List HeldRound → Stream → Stream
+sent-in rounds s = advanced (times-sent (s .number) rounds) s
+
+-- what a planner that held h holds after these rounds
+abbrev pub after-rounds : Content → List HeldRound → Content
+after-rounds h rounds = record { slots = h .slots; frame = h .frame; gap = h .gap; last = last-of (h .last) rounds; table = map (sent-in rounds) (h .table) }
+
+-- the round at s of the lazy rule's slots
+abbrev pub slots-round : Content → ℕ → HeldRound
+slots-round h s = record { start = s; ids = ids-at h s }
+
+abbrev pub state-of : Content → State
+state-of h = record { now = now-of h; cap = cap-of h; table = h .table }
+
+-- c is what h has become by these rounds, each of them lazy, and whatever they sent was in time
+pub record Follows (h : Content) (rounds : List HeldRound) (c : Content) : Type 0 where
+  pub holds : c ≡ after-rounds h rounds
+  pub played : List Round
+  pub lazy : Held (h .slots) (h .gap) (state-of h) played (state-of c)
+  pub starts : map (λ (r : Round). r .start) played ≡ map (λ (r : HeldRound). r .start) rounds
+  pub in-time : (s : Stream) → List·Mem s (h .table) → (m : ℕ) → m < times-sent (s .number) rounds → IsSentInTime rounds s m
+
+-- before the first round
+no-rounds : (h : Content) → Follows h [] h
+unfolding last-of times-sent
+no-rounds h =
+    record {
+      holds =
+          let table : map (sent-in []) (h .table) ≡ h .table = map-congr-left {l = h .table} (λ s m. advanced-none s) ∙ map-id (h .table) in
+          λ i. record { slots = h .slots; frame = h .frame; gap = h .gap; last = h .last; table = sym table i };
+      played = [];
+      lazy = none;
+      starts = refl;
+      in-time = λ s m k below. absurd (omega arith);
+    }
+
+module _ (h : Content) (rounds : List HeldRound) (sound : ContentSound (after-rounds h rounds)) (s : ℕ) (start : IsStart (after-rounds h rounds) s) where
+  abbrev so-far : Content
+  so-far = after-rounds h rounds
+
+  abbrev chosen : List Stream
+  chosen = slots (h .slots) s (so-far .table)
+
+  is-choice : IsChoice (h .slots) s (so-far .table) chosen
+  is-choice = round-choice (h .slots) (now-of so-far) (so-far .table) (content-ready so-far sound) (sound .in-range .slots .0) (cap-of so-far) s s start (omega arith)
+
+  ids-differ : List·Nodup (ids-at so-far s)
+  ids-differ = choice-differ (h .slots) s (so-far .table) chosen (content-ready so-far sound .table) is-choice
+
+  -- a round leaves what the rounds with it leave
+  one-more-holds : rounded so-far s ≡ after-rounds h (rounds ++ (slots-round so-far s ∷ []))
+  unfolding after-round
+  one-more-holds =
+      let last : s ≡ last-of (h .last) (rounds ++ (slots-round so-far s ∷ [])) = sym (last-snoc (h .last) rounds (slots-round so-far s)) in
+      let table : map (passed chosen) (map (sent-in rounds) (h .table)) ≡ map (sent-in (rounds ++ (slots-round so-far s ∷ []))) (h .table) =
+      map-map (passed chosen) (sent-in rounds) (h .table)
+      ∙ map-congr-left {l = h .table} (λ x m.
+      passes-as-sent chosen ids-differ (times-sent (x .number) rounds) x ∙ ap (λ (k : ℕ). advanced k x) (sym (times-sent-snoc (x .number) rounds (slots-round so-far s)))) in
+      λ i. record { slots = h .slots; frame = h .frame; gap = h .gap; last = last i; table = table i }
+
+  -- what an id in the round sends may ride
+  sent-rides : (x : Stream) → List·Mem x (h .table) → (m : ℕ) → times-sent (x .number) rounds ≤ m → m < times-sent (x .number) rounds + times-in (x .number) (ids-at so-far s)
+      → MayRide (packet x m) s
+  sent-rides x there m from below = go (served chosen x)
+    where
+      go : Dec (Served chosen x) → MayRide (packet x m) s
+      go (no absent) = absurd (omega (arith, from, below, stands-never (x .number) (ids-at so-far s) ids-differ absent))
+      go (yes here) =
+          let y = sent-in rounds x in
+          let slot : List·Mem y chosen =
+          served-iff (so-far .table) chosen (content-ready so-far sound .table) (is-choice .inside) y (mem-map-of-mem (sent-in rounds) there) .0 here in
+          let m-th : times-sent (x .number) rounds + 0 ≡ m = omega (arith, from, below, stands-once (x .number) (ids-at so-far s) ids-differ here) in
+          subst (λ (q : Packet). MayRide q s) (packet-advanced x (times-sent (x .number) rounds) 0 ∙ ap (packet x) m-th) (is-choice .ride y slot)
+
+  -- the round follows those before it
+  one-more : Follows h rounds so-far → Follows h (rounds ++ (slots-round so-far s ∷ [])) (rounded so-far s)
+  one-more follows =
+      record {
+        holds = one-more-holds;
+        played = follows .played ++ (round-at (h .slots) (state-of so-far) s ∷ []);
+        lazy = then (follows .lazy) s start;
+        starts =
+            map-append (λ (r : Round). r .start) (follows .played) (round-at (h .slots) (state-of so-far) s ∷ [])
+            ∙ ap (λ (xs : List ℕ). xs ++ (s ∷ [])) (follows .starts)
+            ∙ sym (map-append (λ (r : HeldRound). r .start) rounds (slots-round so-far s ∷ []));
+        in-time = λ x there m below. go x there m (rw (times-sent-snoc (x .number) rounds (slots-round so-far s)) at below) (decLt m (times-sent (x .number) rounds));
+      }
+    where
+      go : (x : Stream) → List·Mem x (h .table) → (m : ℕ) → m < times-sent (x .number) rounds + times-in (x .number) (ids-at so-far s) → Dec (m < times-sent (x .number) rounds)
+          → IsSentInTime (rounds ++ (slots-round so-far s ∷ [])) x m
+      go x there m below (yes earlier) =
+          ∥∥₁-map (follows .in-time x there m earlier)
+          (λ (earlier, (r, (later, (split, sent)))). (
+            earlier,
+            (r, (later ++ (slots-round so-far s ∷ []), (ap (λ (xs : List HeldRound). xs ++ (slots-round so-far s ∷ [])) split ∙ append-assoc earlier (r ∷ later) (slots-round so-far s ∷ []), sent))),
+          ))
+      go x there m below (no now) =
+          ∣ (rounds, (slots-round so-far s, ([], (refl, record { not-before = omega arith; here = below; in-time = sent-rides x there m (omega arith) below })))) ∣₁
+
+-- the ids in the first n places are those of the slots
+pub ids-written : (q : Planner) (before after : List ℕ) (r : Rounded) → IsHeldRound q before after r → take (r .n) after ≡ ids-at (content q) (r .start)
+ids-written q before after r is = ap (take (r .n)) (is .buffer) ∙ take-at (ids-at (content q) (r .start)) (drop (r .n) before) (r .n) (sym (is .n))
+
+-- a held round of the contract is the lazy round
+held-is-lazy : (q : Planner) (before after : List ℕ) (r : Rounded) → IsHeldRound q before after r → held-round r after ≡ slots-round (content q) (r .start)
+held-is-lazy q before after r is = λ i. record { start = r .start; ids = ids-written q before after r is i }
+
+-- one round more, said of what the planner holds
+one-round : (h : Content) (rounds : List HeldRound) (c : Content) → Follows h rounds c → ContentSound c → (s : ℕ) → IsStart c s → Follows h (rounds ++ (slots-round c s ∷ [])) (rounded c s)
+one-round h rounds c follows sound s start =
+    subst⁻¹ (λ (d : Content). Follows h rounds d → ContentSound d → IsStart d s → Follows h (rounds ++ (slots-round d s ∷ [])) (rounded d s)) (follows .holds)
+    (λ so-far is-sound is-start. one-more h rounds is-sound s is-start so-far) follows sound start
+
+abbrev pub AfterCalls : Planner → List HeldRound → Planner → Type 0
+AfterCalls p rounds q = Sound q × Follows (content p) rounds (content q)
+
+-- after a list of calls the planner is sound and holds what its held rounds leave
+pub calls-follow : (p : Planner) → Sound p → {rounds : List HeldRound} {q : Planner} → Calls p rounds q → AfterCalls p rounds q
+calls-follow p sound none = (sound, no-rounds (content p))
+calls-follow p sound (add {rounds} calls id start period deadline r is nonzero) = subst⁻¹ (AfterCalls p rounds) (refused-change is nonzero) (calls-follow p sound calls)
+calls-follow p sound (remove {rounds} calls id r is nonzero) = subst⁻¹ (AfterCalls p rounds) (refused-change is nonzero) (calls-follow p sound calls)
+calls-follow p sound (refused {rounds} calls before after r is nonzero) = subst⁻¹ (AfterCalls p rounds) (refused-round is nonzero .planner) (calls-follow p sound calls)
+calls-follow p sound (held {rounds} {q} calls before after r is zero) =
+    let w = success-round is zero in
+    let ih = calls-follow p sound calls in (
+      w .planner .sound,
+      subst⁻¹ (Follows (content p) (rounds ++ (held-round r after ∷ []))) (w .planner .holds)
+          (subst⁻¹ (λ (x : HeldRound). Follows (content p) (rounds ++ (x ∷ [])) (rounded (content q) (r .start))) (held-is-lazy q before after r w)
+          (one-round (content p) rounds (content q) (ih .1) (ih .0 .content-sound) (r .start) (w .start))),
+    )
+
+-- once a round was refused with 17, the start stays late: nothing changes the planner any more
+pub clock-stays : {p : Planner} {rounds : List HeldRound} {q : Planner} → (calls : Calls p rounds q) → ClockEnded calls → StartsLate q
+unfolding ClockEnded
+clock-stays none ended = absurd ended
+clock-stays (add calls id start period deadline r is nonzero) ended = subst⁻¹ StartsLate (refused-change is nonzero) (clock-stays calls ended)
+clock-stays (remove calls id r is nonzero) ended = subst⁻¹ StartsLate (refused-change is nonzero) (clock-stays calls ended)
+clock-stays (refused {q} calls before after r is nonzero) ended =
+    subst⁻¹ StartsLate (refused-round is nonzero .planner)
+    (⊎-elim (λ seventeen. seventeen-is-late q before (sym (is .answer) ∙ seventeen)) (λ earlier. clock-stays calls earlier) ended)
+clock-stays (held {q} calls before after r is zero) ended = absurd (held-is-not-late q before (sym (is .answer) ∙ zero) (clock-stays calls ended))
+
+module _ (h : Content) (rounds : List HeldRound) (c : Content) (follows : Follows h rounds c) where
+  -- where everything fits at x in the end, every packet due by x has been sent in time
+  pub sent-unless-later : ContentSound c → (x : ℕ) → Fits (c .slots) x (c .table) → (s : Stream) → List·Mem s (h .table) → (m : ℕ) → packet s m .due ≤ x → IsSentInTime rounds s m
+  sent-unless-later sound x fits s there m early = go (decLt m (times-sent (s .number) rounds))
+    where
+      go : Dec (m < times-sent (s .number) rounds) → IsSentInTime rounds s m
+      go (yes sent) = follows .in-time s there m sent
+      go (no waiting) =
+          let k = times-sent (s .number) rounds in
+          let rest : k + (m - k) ≡ m = omega arith in
+          let waits : PacketOf (c .table) (packet s m) =
+          subst⁻¹ (λ (d : Content). PacketOf (d .table) (packet s m)) (follows .holds)
+          ∣ (sent-in rounds s, mem-map-of-mem (sent-in rounds) there, (m - k, sym (packet-advanced s k (m - k) ∙ ap (packet s) rest))) ∣₁ in
+          absurd (lt-irrefl x (lt-of-lt-of-le (packet-due-after (c .slots) x (c .table) (all-formed c sound) fits (packet s m) waits) early))
+
+  -- now is the end of the last round
+  pub now-is-end : now-of c ≡ end-of (now-of h) rounds
+  now-is-end = ap now-of (follows .holds) ∙ last-is-end (h .last) rounds
+
+  -- no rival starts a round later
+  pub rival-never-later : ContentSound h → (plan : ℕ → Round) → IsRival (h .slots) (now-of h) (cap-of h) (h .gap) (h .table) plan → (k : ℕ) → k < length rounds
+      → plan k .start ≤ start-of rounds k
+  rival-never-later sound plan rival k below =
+      let gap = sound .in-range .gap .0 in
+      let ready : IsReadyState (h .slots) (state-of h) = record { ready = content-ready h sound; open-cap = omega arith } in
+      let many : length (follows .played) ≡ length rounds =
+      sym (length-map (follows .played) (λ (r : Round). r .start)) ∙ ap (length {A = ℕ}) (follows .starts) ∙ length-map rounds (λ (r : HeldRound). r .start) in
+      let same : getD (follows .played) k (record { start = 0; packets = [] }) .start ≡ start-of rounds k =
+      sym (List·getD-map (λ (r : Round). r .start) (follows .played) k (record { start = 0; packets = [] })) ∙ ap (λ (xs : List ℕ). getD xs k 0) (follows .starts)
+      ∙ List·getD-map (λ (r : HeldRound). r .start) rounds k (record { start = 0; ids = [] }) in
+      subst (λ (x : ℕ). plan k .start ≤ x) same
+      (held-fewest (h .slots) (h .gap) (sound .in-range .slots .0) gap (state-of h) ready plan rival (follows .lazy) k (subst⁻¹ (λ (n : ℕ). k < n) many below))

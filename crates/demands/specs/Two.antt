@@ -1,0 +1,146 @@
+-- Demand 2: "Each round's start and slots are those of the lazy rule with earliest deadline first, equal deadlines by smaller id. A well-formed
+-- new stream, offered to a sound planner with a place free, is refused exactly when no plan serves the table, all starts put together, or none
+-- serves it from now on with the packets now held."
+use mathlib.Core.Path.{_≡_, sym, subst⁻¹, _∙_}
+use mathlib.Core.Logic.{_⊎_, inl, inr, _↔_, _∨₁_, Or·inl, Or·inr, Or·elim}
+use mathlib.Core.HLevel.{⊥-prop}
+use mathlib.Core.List.{List, [], _∷_, map}
+use Prim.Native.Nat.{ℕ, _≤_, _<_}
+use native.Mathlib.Omega.{arith}
+use lib.ListN.{length}
+use Rattle.basics.specs.Refusals.{answer-of, answer-first, answer-later}
+use Rattle.rules.specs.Streams.{IsTable, at-zero}
+use Rattle.rules.specs.Demand.{DemandRule, StartRule, DueAfter}
+use Rattle.rules.specs.Plans.{Servable}
+use Rattle.rules.specs.Decide.{decide-demand-rule, decide-start-rule}
+use Rattle.rules.specs.Exact.{demand-exact, demand-fails-exactly, start-exact, start-fails-exactly}
+use Rattle.planner.specs.Content.{Content, content, now-of}
+use Rattle.planner.specs.Sound.{Sound}
+use Rattle.planner.specs.SoundFacts.{content-table, sound-start}
+use Rattle.planner.specs.Calls.{offered, added, breaks-demand, breaks-start, add-refusals, IsOffer, IsSoundWith, IsAdd}
+use Rattle.planner.specs.Round.{IsStart, IsHeldRound, IsRound}
+use Rattle.planner.specs.TableFacts.{put-is-table, put-due-after}
+use Rattle.planner.specs.CallFacts.{success-change, success-round, held-exactly, seventeen-exactly}
+use Rattle.planner.specs.AddFacts.{by-rules}
+use Rattle.planner.specs.declared.Planner.{Planner}
+use Rattle.planner.specs.declared.Changed.{Changed}
+use Rattle.planner.specs.declared.Rounded.{Rounded}
+
+-- On a sound planner with a stream and a buffer of at least B places: there is a lazy start; held exactly if it is at most 1,000,000,000, and 17
+-- if not; held, start, slots, buffer and planner are those of the lazy rule and the slot rule, which `IsHeldRound` states. That the slots stand by due
+-- time, then id, and before every other packet that may ride, is `slots-in-order` and `slots-come-first` of the rules.
+pub record RoundIsLazy (p : Planner) (before after : List ℕ) (r : Rounded) : Type 0 where
+  pub has-start : (s : ℕ) × IsStart (content p) s
+  pub exactly : (s : ℕ) → IsStart (content p) s → (r .answer ≡ 0) ↔ (s ≤ 1_000_000_000)
+  pub seventeen : (s : ℕ) → IsStart (content p) s → (r .answer ≡ 17) ↔ (1_000_000_000 < s)
+  pub held : r .answer ≡ 0 → IsHeldRound p before after r
+
+-- Some plan serves the table, all starts put together: every start and the moment at 0.
+abbrev pub ServableTogether : Content → Type 0
+ServableTogether h = Servable (h .slots) 0 (map at-zero (h .table))
+
+-- Some plan serves it from now on with the packets now held.
+abbrev pub ServableFromNow : Content → Type 0
+ServableFromNow h = Servable (h .slots) (now-of h) (h .table)
+
+-- h is what the planner would hold with the stream.
+pub record AddIsExact (h : Content) (r : Changed) : Type 0 where
+  pub twelve : (r .answer ≡ 12) ↔ (ServableTogether h → ⊥)
+  pub thirteen : (r .answer ≡ 13) ↔ (ServableTogether h × (ServableFromNow h → ⊥))
+  pub accepted : (r .answer ≡ 0) ↔ (ServableTogether h × ServableFromNow h)
+  pub refused : (r .answer ≡ 0 → ⊥) ↔ ((ServableTogether h → ⊥) ∨₁ (ServableFromNow h → ⊥))
+  pub stored : r .answer ≡ 0 → IsSoundWith h (r .planner)
+
+pub record Demand2 : Type 0 where
+  pub round-is-lazy : (p : Planner) → Sound p → 1 ≤ length (content p .table) → (before after : List ℕ) → content p .slots ≤ length before
+      → (r : Rounded) → IsRound p before after r → RoundIsLazy p before after r
+  pub add-is-exact : (p : Planner) → Sound p → (id start period deadline : ℕ) → IsOffer (content p) id start period deadline
+      → (r : Changed) → IsAdd p id start period deadline r → AddIsExact (added (content p) id start period deadline) r
+
+-- the three outcomes of an offer, with what can be served in each
+by-outcome : (h : Content) (r : Changed) → (r .answer ≡ 0 → IsSoundWith h (r .planner))
+    → ((ServableTogether h → ⊥) × (r .answer ≡ 12)) ⊎ ((ServableTogether h × (ServableFromNow h → ⊥) × (r .answer ≡ 13)) ⊎ (ServableTogether h × ServableFromNow h × (r .answer ≡ 0)))
+    → AddIsExact h r
+by-outcome h r stored (inl (none, answer)) =
+    record {
+      twelve = (λ _. none, λ _. answer);
+      thirteen = (λ e. absurd (omega (arith, answer, e)), λ w. absurd (none (w .0)));
+      accepted = (λ e. absurd (omega (arith, answer, e)), λ w. absurd (none (w .0)));
+      refused = (λ _. Or·inl none, λ _ e. omega (arith, answer, e));
+      stored = stored;
+    }
+by-outcome h r stored (inr (inl (together, none, answer))) =
+    record {
+      twelve = (λ e. absurd (omega (arith, answer, e)), λ not-together. absurd (not-together together));
+      thirteen = (λ _. (together, none), λ _. answer);
+      accepted = (λ e. absurd (omega (arith, answer, e)), λ w. absurd (none (w .1)));
+      refused = (λ _. Or·inr none, λ _ e. omega (arith, answer, e));
+      stored = stored;
+    }
+by-outcome h r stored (inr (inr (together, from-now, answer))) =
+    record {
+      twelve = (λ e. absurd (omega (arith, answer, e)), λ not-together. absurd (not-together together));
+      thirteen = (λ e. absurd (omega (arith, answer, e)), λ w. absurd (w .1 from-now));
+      accepted = (λ _. (together, from-now), λ _. answer);
+      refused = (λ refused. absurd (refused answer), λ one. absurd (Or·elim ⊥-prop one (λ none. none together) (λ none. none from-now)));
+      stored = stored;
+    }
+
+module _ (p : Planner) (sound : Sound p) (id start period deadline : ℕ) (offer : IsOffer (content p) id start period deadline) where
+  abbrev with-it : Content
+  with-it = added (content p) id start period deadline
+
+  its-table : IsTable (with-it .table)
+  its-table = put-is-table (offered id start period deadline) (content p .table) (offer .deadline-range) (offer .new) (content-table (content p) (sound .content-sound))
+
+  its-due-times : DueAfter (now-of with-it) (with-it .table)
+  its-due-times =
+      put-due-after (offered id start period deadline) (content p .table) (now-of (content p)) (omega (arith, offer .start-range, offer .deadline-range))
+      (sound .content-sound .near .due-after)
+
+  -- of an offer only 12 and 13 are left to be asked
+  only-rules-left : answer-of (add-refusals p id start period deadline) ≡ answer-of (breaks-demand with-it ∷ breaks-start with-it ∷ [])
+  only-rules-left = sym (by-rules p id start period deadline (record { sound = sound; offer = offer }))
+
+  exact-add : (r : Changed) → IsAdd p id start period deadline r → AddIsExact with-it r
+  unfolding answer-of
+  exact-add r is = go (decide-demand-rule (with-it .slots) (with-it .table)) (decide-start-rule (with-it .slots) (now-of with-it) (with-it .table))
+    where
+      positive : 1 ≤ with-it .slots
+      positive = sound .content-sound .in-range .slots .0
+
+      answers : (n : ℕ) → answer-of (breaks-demand with-it ∷ breaks-start with-it ∷ []) ≡ n → r .answer ≡ n
+      answers n e = is .answer ∙ only-rules-left ∙ e
+
+      go : Dec (DemandRule (with-it .slots) (with-it .table)) → Dec (StartRule (with-it .slots) (now-of with-it) (with-it .table)) → AddIsExact with-it r
+      go (no breaks) start-rule =
+          by-outcome with-it r (success-change is)
+          (inl (demand-fails-exactly (with-it .table) its-table (with-it .slots) positive .0 breaks, answers 12 (answer-first (breaks-demand with-it) (breaks-start with-it ∷ []) breaks)))
+      go (yes keeps) (no breaks) =
+          by-outcome with-it r (success-change is)
+          (inr (inl (
+            demand-exact (with-it .table) its-table (with-it .slots) positive .0 keeps,
+            start-fails-exactly (with-it .slots) (now-of with-it) (with-it .table) positive its-table keeps its-due-times .0 breaks,
+            answers 13 (answer-later (breaks-demand with-it) (breaks-start with-it ∷ []) (λ fails. fails keeps) ∙ answer-first (breaks-start with-it) [] breaks),
+          )))
+      go (yes keeps) (yes keeps-start) =
+          by-outcome with-it r (success-change is)
+          (inr (inr (
+            demand-exact (with-it .table) its-table (with-it .slots) positive .0 keeps,
+            start-exact (with-it .slots) (now-of with-it) (with-it .table) positive its-table keeps its-due-times .0 keeps-start,
+            answers 0
+                (answer-later (breaks-demand with-it) (breaks-start with-it ∷ []) (λ fails. fails keeps) ∙ answer-later (breaks-start with-it) [] (λ fails. fails keeps-start)),
+          )))
+
+pub demand-2 : Demand2
+demand-2 =
+    record {
+      round-is-lazy = λ p sound some before after long r is.
+          record {
+            has-start = sound-start p sound;
+            exactly = λ s start. subst⁻¹ (λ (n : ℕ). (n ≡ 0) ↔ (s ≤ 1_000_000_000)) (is .answer) (held-exactly p before sound some long s start);
+            seventeen = λ s start. subst⁻¹ (λ (n : ℕ). (n ≡ 17) ↔ (1_000_000_000 < s)) (is .answer) (seventeen-exactly p before sound some long s start);
+            held = success-round is;
+          };
+      add-is-exact = exact-add;
+    }

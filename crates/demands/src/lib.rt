@@ -1,0 +1,1 @@
+// The three demands as theorems about the planner's calls; there is no code.

@@ -25,11 +25,12 @@ use Rattle.planner.specs.Content.{Content, content, now-of, with-table}
 use Rattle.planner.specs.Sound.{Sound}
 use Rattle.planner.specs.Decide.{decide-sound}
 use Rattle.planner.specs.OpenFacts.{NumbersInRange, in-limit}
-use Rattle.planner.specs.Calls.{offered, added, unsound, offer-refusals, rule-refusals, add-refusals, IsOffer, CanTest, CanAdd, IsSoundWith}
+use Rattle.planner.specs.Calls.{offered, added, unsound, offer-refusals, rule-refusals, add-refusals, IsOffer, IsSoundWith}
 use Rattle.planner.specs.FilesFacts.{can-insert, files-inserted}
 use Rattle.planner.specs.Kept.{added-in-range, added-sound}
 use Rattle.planner.specs.SoundTest.{can-test-demand, can-find-start}
 use Rattle.planner.specs.ChangeFacts.{is-sound-with}
+use Rattle.planner.specs.Inner.{CanAdd, CanTest}
 use Rattle.planner.specs.declared.Planner.{Planner}
 
 -- the numbers of a sound planner

@@ -101,17 +101,6 @@ pub record IsOffer (h : Content) (number first period deadline : ℕ) : Type 0 w
   pub deadline-range : (1 ≤ deadline) × (deadline ≤ period)
   pub start-range : (now-of h ≤ first) × (first ≤ now-of h + 239)
 
--- What the test of the two rules relies on: that none of 5 to 11 applies ..
-pub record CanTest (p : Planner) (id start period deadline : ℕ) : Type 0 where
-  pub sound : Sound p
-  pub offer : IsOffer (content p) id start period deadline
-
--- .. and what taking the stream in relies on: that none of 12 and 13 does.
-pub record CanAdd (p : Planner) (id start period deadline : ℕ) : Type 0 where
-  pub can-test : CanTest p id start period deadline
-  pub demand-rule : DemandRule (p .slots) (added (content p) id start period deadline .table)
-  pub start-rule : StartRule (p .slots) (now-of (content p)) (added (content p) id start period deadline .table)
-
 -- 01: "14 for an id not held".
 abbrev pub not-held : ℕ → Content → Refusal
 not-held id h = record { number = 14; Applies = HasId id (h .table) → ⊥; decided = Dec·not (decide-id id (h .table)) }

@@ -34,7 +34,7 @@ use Rattle.planner.specs.Round.{IsStart, ids-at}
 use Rattle.planner.specs.SlotWalk.{ReleasedBy, released-by, released-ids, slots-ids, one-more-taken, one-more-skipped, enough, all-seen, after-none, after-place}
 use Rattle.planner.specs.FilesFacts.{files-length, files-filed}
 use Rattle.planner.specs.ServeFacts.{due-after-start}
-use Rattle.planner.specs.Chosen.{CanVisit, IsVisit, CanChoose, IsChosen}
+use Rattle.planner.specs.Inner.{CanChoose, CanVisit, IsChosen, IsVisit}
 use Rattle.planner.specs.declared.Planner.{Planner}
 use Rattle.planner.specs.declared.slots.Chosen.{Chosen}
 

@@ -10,13 +10,13 @@ pub mod Round
 pub mod OpenFacts
 pub mod CallFacts
 pub mod SlotWalk
+pub mod Inner
 pub mod Kept
 pub mod FilesFacts
 pub mod SoundTest
 pub mod ServeFacts
 pub mod ChangeFacts
 pub mod AddFacts
-pub mod Chosen
 pub mod ChooseFacts
 pub mod ServingFacts
 pub mod RoundFacts

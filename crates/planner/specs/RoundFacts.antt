@@ -13,17 +13,12 @@ use Rattle.planner.specs.Decide.{decide-sound}
 use Rattle.planner.specs.Calls.{unsound, IsSoundWith}
 use Rattle.planner.specs.Round.{no-stream-held, short-buffer, late-start, round-refusals, rounded, IsRound}
 use Rattle.planner.specs.CallFacts.{starts-late-iff, held-is-not-late}
-use Rattle.planner.specs.SoundTest.{IsSoundStart}
-use Rattle.planner.specs.Chosen.{CanChoose, IsChosen, CanServeAll}
+use Rattle.planner.specs.Inner.{CanChoose, CanServeAll, IsChosen, IsSoundStart}
 use Rattle.planner.specs.declared.Planner.{Planner}
 use Rattle.planner.specs.declared.slots.Chosen.{Chosen}
 
 above : (m n : ℕ) → (m < n → ⊥) → n ≤ m
 above m n not-less = omega arith
-
--- The answer of round for a buffer of this length.
-abbrev pub IsRoundAnswer : Planner → ℕ → ℕ → Type 0
-IsRoundAnswer p n r = (buffer : List ℕ) → length buffer ≡ n → r ≡ answer-of (round-refusals p buffer)
 
 module _ (p : Planner) (start : ℕ) (test : IsSoundStart p start) where
   pub no-sound-start : start ≡ 0 → (buffer : List ℕ) → 5 ≡ answer-of (round-refusals p buffer)

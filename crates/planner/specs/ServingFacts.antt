@@ -24,7 +24,7 @@ use Rattle.planner.specs.Round.{IsStart, ids-at, rounded}
 use Rattle.planner.specs.Kept.{rounded-sound}
 use Rattle.planner.specs.ServeFacts.{serve-all, serve-next, serve-all-slots, served-ascending, slot-held, served-bounds, can-move, files-served}
 use Rattle.planner.specs.ChangeFacts.{is-sound-with}
-use Rattle.planner.specs.Chosen.{CanServeAll}
+use Rattle.planner.specs.Inner.{CanServeAll}
 use Rattle.planner.specs.declared.Planner.{Planner}
 use Rattle.planner.specs.declared.slots.Chosen.{Chosen}
 

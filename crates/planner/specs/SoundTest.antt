@@ -1,4 +1,4 @@
--- What the test of soundness answers, and the facts that its parts rest on.
+-- The facts that the test of soundness rests on.
 use mathlib.Core.Path.{_≡_, sym, subst, subst⁻¹, _∙_}
 use mathlib.Core.Bool.{Bool}
 use mathlib.Core.List.{List, List·Mem, List·Mem-prop}
@@ -11,7 +11,6 @@ use Rattle.rules.specs.Streams.{Stream, due}
 use Rattle.table.specs.Table.{stream-of, streams-of, stream-at, IsColumn, CanRead}
 use Rattle.table.specs.TableFacts.{stream-at-mem, all-streams}
 use Rattle.table.specs.ChangeFacts.{streams-count}
-use Rattle.table.specs.Changes.{Ascending}
 use Rattle.table.specs.Range.{TableInRange}
 use Rattle.table.specs.Lengths.{IsBusyLength, IsNextStart, CanTestDemand, CanFindStart}
 use Rattle.table.specs.declared.Table.{Table}
@@ -22,28 +21,11 @@ use Rattle.queue.specs.EntryFacts.{entry-path}
 use Rattle.queue.specs.Layout.{entries}
 use Rattle.queue.specs.Layout
 use Rattle.queue.specs.declared.Queue.{Queue}
-use Rattle.planner.specs.Content.{content}
-use Rattle.planner.specs.Sound.{entry-of, Files, Sound}
+use Rattle.planner.specs.Sound.{entry-of, Sound}
 use Rattle.planner.specs.OpenFacts.{NumbersInRange}
-use Rattle.planner.specs.Round.{IsStart}
+use Rattle.planner.specs.Inner.{IsSoundStart, CanCompare, IsFiled}
 use Rattle.planner.specs.FilesFacts.{files-length, files-from, files-entry}
 use Rattle.planner.specs.declared.Planner.{Planner}
-
--- The lazy start of a sound planner; 0 for a planner that is not sound.
-pub record IsSoundStart (p : Planner) (r : ℕ) : Type 0 where
-  pub unsound : r ≡ 0 → Sound p → ⊥
-  pub sound : 1 ≤ r → Sound p
-  pub start : 1 ≤ r → IsStart (content p) r
-
--- What the comparison of queue and table relies on.
-pub record CanCompare (table : Table) : Type 0 where
-  pub count : table .count ≤ 64
-  pub ascending : Ascending (streams-of table)
-  pub small : (s : Stream) → List·Mem s (streams-of table) → (s .number ≤ 32767) × (due s ≤ 2_000_000_000)
-
--- The queue is sound and files exactly the streams of the table.
-abbrev pub IsFiled : Table → Queue → Type 0
-IsFiled table q = Layout.Sound q × Files (entries q) (streams-of table)
 
 module _ (table : Table) (can : CanCompare table) (long : length (table .streams) ≡ 64) where
   fits : table .count ≤ length (table .streams)

@@ -1,9 +1,11 @@
 // A stream offered to a planner: whether it is refused, and the planner that takes it in.
 ghost use mathlib.Core.Path.{_≡_};
 ghost use Rattle.basics.specs.Refusals.{answer-of};
+ghost use Rattle.table.specs.Changes.{HasStreams};
 ghost use Rattle.planner.specs.Content.{content};
 ghost use Rattle.planner.specs.Sound.{Sound};
-ghost use Rattle.planner.specs.Calls.{offer-refusals, rule-refusals, add-refusals, added, CanTest, CanAdd, IsSoundWith};
+ghost use Rattle.planner.specs.Calls.{offer-refusals, rule-refusals, add-refusals, added, IsSoundWith};
+ghost use Rattle.planner.specs.Inner.{CanAdd, CanTest};
 use super::Planner;
 use super::soundness::sound_start;
 use queue::Queue;
@@ -43,10 +45,10 @@ fn offer_refusal_sound(p: Planner, id: u32, start: u32, period: u32, deadline: u
     0
 }
 
-// 12 and 13: the two rules on the table with the stream.
-fn rule_refusal_sound(p: Planner, id: u32, start: u32, period: u32, deadline: u32) -> u32
+// The table with the stream.
+fn table_with_sound(p: Planner, id: u32, start: u32, period: u32, deadline: u32) -> Table
     requires { ⌜ CanTest p id start period deadline ⌝ }
-    ensures { λ r. ⌜ r ≡ answer-of (rule-refusals (added (content p) id start period deadline)) ⌝ }
+    ensures { λ r. ⌜ HasStreams (added (content p) id start period deadline .table) r ⌝ }
 {
     let stream = Stream {
         id,
@@ -54,8 +56,16 @@ fn rule_refusal_sound(p: Planner, id: u32, start: u32, period: u32, deadline: u3
         deadline,
         release: start,
     };
-    let held = p.table;
-    let table = table::put_in_range(held, stream);
+    let table = p.table;
+    table::put_in_range(table, stream)
+}
+
+// 12 and 13: the two rules on the table with the stream.
+fn rule_refusal_sound(p: Planner, id: u32, start: u32, period: u32, deadline: u32) -> u32
+    requires { ⌜ CanTest p id start period deadline ⌝ }
+    ensures { λ r. ⌜ r ≡ answer-of (rule-refusals (added (content p) id start period deadline)) ⌝ }
+{
+    let table = table_with_sound(p, id, start, period, deadline);
     let busy = table::busy_length_in_range(table, p.slots, p.frame);
     if busy == 0 {
         return 12;
@@ -84,14 +94,7 @@ pub fn add_sound(p: Planner, id: u32, start: u32, period: u32, deadline: u32) ->
     requires { ⌜ CanAdd p id start period deadline ⌝ }
     ensures { λ r. ⌜ IsSoundWith (added (content p) id start period deadline) r ⌝ }
 {
-    let stream = Stream {
-        id,
-        period,
-        deadline,
-        release: start,
-    };
-    let held = p.table;
-    let table = table::put_in_range(held, stream);
+    let table = table_with_sound(p, id, start, period, deadline);
     let filed = p.queue;
     let queue = queue::insert_sound(filed, id, start + deadline);
     Planner {

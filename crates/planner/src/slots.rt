@@ -7,7 +7,7 @@ ghost use Rattle.table.specs.Table.{streams-of};
 ghost use Rattle.planner.specs.Content.{content};
 ghost use Rattle.planner.specs.Calls.{IsSoundWith};
 ghost use Rattle.planner.specs.Round.{rounded};
-ghost use Rattle.planner.specs.Chosen.{CanVisit, IsVisit, CanChoose, IsChosen, CanServeAll};
+ghost use Rattle.planner.specs.Inner.{CanChoose, CanServeAll, CanVisit, IsChosen, IsVisit};
 use super::Planner;
 use table::Stream;
 use table::Table;

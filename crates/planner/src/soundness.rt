@@ -1,7 +1,7 @@
 // Whether a planner is sound, and its next start if it is.
 ghost use mathlib.Core.Path.{_≡_};
 ghost use Rattle.basics.specs.Decides.{Decides};
-ghost use Rattle.planner.specs.SoundTest.{CanCompare, IsFiled, IsSoundStart};
+ghost use Rattle.planner.specs.Inner.{CanCompare, IsFiled, IsSoundStart};
 use super::Planner;
 use super::open_refusal;
 use queue::Queue;

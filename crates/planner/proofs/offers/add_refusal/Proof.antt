@@ -4,7 +4,7 @@ use native.Mathlib.Omega.{arith}
 use Rattle.basics.specs.Refusals.{here, first-is-answer}
 use Rattle.planner.specs.Content.{content}
 use Rattle.planner.specs.Sound.{Sound}
-use Rattle.planner.specs.Calls.{CanTest}
+use Rattle.planner.specs.Inner.{CanTest}
 use Rattle.planner.specs.AddFacts.{offer-passed, by-offer, by-rules}
 use borrow.Author.Needs.{needs}
 use Rattle.planner.proofs.offers.add_refusal.Statement.{statement}

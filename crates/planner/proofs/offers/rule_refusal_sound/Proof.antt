@@ -4,24 +4,23 @@ use Rattle.basics.specs.Refusals.{none, here, later, first-is-answer}
 use Rattle.rules.specs.Demand.{DemandRule}
 use Rattle.planner.specs.Content.{content}
 use Rattle.planner.specs.Calls.{added}
-use Rattle.planner.specs.AddFacts.{can-put, can-test-table, can-find-table, busy-of-added, start-of-added}
-use Rattle.planner.proofs.Shape.{planner-shape}
+use Rattle.planner.specs.AddFacts.{can-test-table, can-find-table, busy-of-added, start-of-added}
 use borrow.Author.Needs.{needs}
 use Rattle.planner.proofs.offers.rule_refusal_sound.Statement.{statement}
 use Rattle.planner.proofs.offers.rule_refusal_sound.Tie as tie
 
-put-in-range-requires : tie.Need-put-in-range-requires
-put-in-range-requires c κs = can-put (c .before .pre) (planner-shape (c .before .args .p) _ (c .before .good .0))
+table-with-sound-requires : tie.Need-table-with-sound-requires
+table-with-sound-requires c κs = c .pre
 
 busy-length-in-range-requires : tie.Need-busy-length-in-range-requires
-busy-length-in-range-requires c κs = can-test-table (c .before .before .pre) (c .put-in-range .ensures)
+busy-length-in-range-requires c κs = can-test-table (c .before .pre) (c .table-with-sound .ensures)
 
 returns : tie.Need-returns
-returns c = first-is-answer (here (busy-of-added (c .before .before .before .before .pre) (c .before .before .put-in-range .ensures) (c .before .busy-length-in-range .ensures) .fails (c .if1 .taken)))
+returns c = first-is-answer (here (busy-of-added (c .before .before .before .pre) (c .before .before .table-with-sound .ensures) (c .before .busy-length-in-range .ensures) .fails (c .if1 .taken)))
 
 -- with a busy length the demand rule holds
-demand-kept : (c : tie.Else1) → DemandRule (c .before .before .before .before .args .p .slots) (added (content (c .before .before .before .before .args .p)) (c .before .before .before .before .args .id) (c .before .before .before .before .args .start) (c .before .before .before .before .args .period) (c .before .before .before .before .args .deadline) .table)
-demand-kept c = busy-of-added (c .before .before .before .before .pre) (c .before .before .put-in-range .ensures) (c .before .busy-length-in-range .ensures) .holds (omega (arith, c .if1 .left))
+demand-kept : (c : tie.Else1) → DemandRule (c .before .before .before .args .p .slots) (added (content (c .before .before .before .args .p)) (c .before .before .before .args .id) (c .before .before .before .args .start) (c .before .before .before .args .period) (c .before .before .before .args .deadline) .table)
+demand-kept c = busy-of-added (c .before .before .before .pre) (c .before .before .table-with-sound .ensures) (c .before .busy-length-in-range .ensures) .holds (omega (arith, c .if1 .left))
 
 add-next-start-in-range : tie.Need-add-next-start-in-range
 add-next-start-in-range c = search needs
@@ -30,19 +29,19 @@ add-next-start-in-range-2 : tie.Need-add-next-start-in-range-2
 add-next-start-in-range-2 c = search needs
 
 next-start-in-range-requires : tie.Need-next-start-in-range-requires
-next-start-in-range-requires c κs = can-find-table (c .before .before .before .before .before .before .pre) (c .before .before .before .before .put-in-range .ensures) (c .before .before .before .busy-length-in-range .ensures) (omega (arith, c .before .before .if1 .left))
+next-start-in-range-requires c κs = can-find-table (c .before .before .before .before .before .pre) (c .before .before .before .before .table-with-sound .ensures) (c .before .before .before .busy-length-in-range .ensures) (omega (arith, c .before .before .if1 .left))
 
 returns-2 : tie.Need-returns-2
-returns-2 c = first-is-answer (later (λ bad. bad (demand-kept (c .before .before .before .before))) (here (start-of-added (c .before .before .before .before .before .before .before .before .pre) (c .before .before .before .before .before .before .put-in-range .ensures) (c .before .next-start-in-range .ensures) .fails (c .if2 .taken))))
+returns-2 c = first-is-answer (later (λ bad. bad (demand-kept (c .before .before .before .before))) (here (start-of-added (c .before .before .before .before .before .before .before .pre) (c .before .before .before .before .before .before .table-with-sound .ensures) (c .before .next-start-in-range .ensures) .fails (c .if2 .taken))))
 
 returns-3 : tie.Need-returns-3
-returns-3 c = first-is-answer (later (λ bad. bad (demand-kept (c .before .before .before .before))) (later (λ bad. bad (start-of-added (c .before .before .before .before .before .before .before .before .pre) (c .before .before .before .before .before .before .put-in-range .ensures) (c .before .next-start-in-range .ensures) .holds (omega (arith, c .if2 .left)))) none))
+returns-3 c = first-is-answer (later (λ bad. bad (demand-kept (c .before .before .before .before))) (later (λ bad. bad (start-of-added (c .before .before .before .before .before .before .before .pre) (c .before .before .before .before .before .before .table-with-sound .ensures) (c .before .next-start-in-range .ensures) .holds (omega (arith, c .if2 .left)))) none))
 
 pub rule-refusal-sound-spec : {M : Type 1} → statement M
 rule-refusal-sound-spec =
     tie.close
     (tie.spec
-    put-in-range-requires
+    table-with-sound-requires
     busy-length-in-range-requires
     returns
     add-next-start-in-range

@@ -1,6 +1,6 @@
 -- What follows from a call's contract in terms of its answer: a refused call changes nothing, and a sound planner stays sound.
 use mathlib.Core.Path.{_≡_, sym, subst, subst⁻¹, _∙_}
-use mathlib.Core.Logic.{_↔_}
+use mathlib.Core.Logic.{_↔_, Dec·not-not}
 use mathlib.Core.List.{List, [], _∷_}
 use Prim.Native.Nat.{ℕ, _≤_, _<_}
 use native.Mathlib.Decide.{ℕ-discrete}
@@ -64,6 +64,13 @@ module _ (p : Planner) (buffer : List ℕ) where
       let some = answer-other n (no-stream-held (content p)) (short-buffer (content p) buffer ∷ late-start p ∷ []) not-15 (sound .1) in
       answer-other n (short-buffer (content p) buffer) (late-start p ∷ []) not-16 (some .1) .1
 
+  -- a round that is held is held by a sound planner ..
+  pub held-is-sound : answer-of (round-refusals p buffer) ≡ 0 → Sound p
+  held-is-sound none =
+      Dec·not-not (decide-sound p) .0
+      (answer-zero (unsound p) (no-stream-held (content p) ∷ short-buffer (content p) buffer ∷ late-start p ∷ []) (λ e. omega (arith, e)) none .0)
+
+  -- .. that does not start late
   pub held-is-not-late : answer-of (round-refusals p buffer) ≡ 0 → StartsLate p → ⊥
   held-is-not-late none = answer-zero (late-start p) [] (λ e. omega (arith, e)) (by-last-refusal 0 (λ e. omega (arith, e)) (λ e. omega (arith, e)) (λ e. omega (arith, e)) none) .0
 

@@ -1,6 +1,5 @@
 -- The answers of round, and what it hands back.
 use mathlib.Core.Path.{_≡_, refl, sym, ap, _∙_}
-use mathlib.Core.Logic.{Dec·not-not}
 use mathlib.Core.List.{List, [], _∷_, _++_}
 use Prim.Native.Nat.{ℕ, _≤_, _<_}
 use native.Mathlib.Nat.{lt-irrefl}
@@ -9,10 +8,9 @@ use lib.ListN.{length, take, drop}
 use Rattle.basics.specs.Refusals.{answer-of, answer-zero, none, here, later, first-is-answer}
 use Rattle.planner.specs.Content.{content}
 use Rattle.planner.specs.Sound.{Sound}
-use Rattle.planner.specs.Decide.{decide-sound}
 use Rattle.planner.specs.Calls.{unsound, IsSoundWith}
 use Rattle.planner.specs.Round.{no-stream-held, short-buffer, late-start, round-refusals, rounded, IsRound}
-use Rattle.planner.specs.CallFacts.{starts-late-iff, held-is-not-late}
+use Rattle.planner.specs.CallFacts.{starts-late-iff, held-is-sound, held-is-not-late}
 use Rattle.planner.specs.Inner.{CanChoose, CanServeAll, IsChosen, IsSoundStart}
 use Rattle.planner.specs.declared.Planner.{Planner}
 use Rattle.planner.specs.declared.slots.Chosen.{Chosen}
@@ -67,7 +65,7 @@ module _ (p : Planner) (start : ℕ) (test : IsSoundStart p start) where
       after-16 = answer-zero (short-buffer (content p) buffer) (late-start p ∷ []) (λ e. lt-irrefl 0 (omega (arith, e))) (after-15 .1)
 
       is-sound : Sound p
-      is-sound = Dec·not-not (decide-sound p) .0 (after-5 .0)
+      is-sound = held-is-sound p buffer (sym is ∙ passed)
 
       found : 1 ≤ start
       found = positive start (λ zero. test .unsound zero is-sound)

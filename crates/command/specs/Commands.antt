@@ -1,0 +1,28 @@
+-- Which lines are commands: O,B,F,G,T / A,id,S,P,D / D,id / R.
+use mathlib.Core.List.{List, [], _∷_, List·Mem}
+use Prim.Native.Nat.{ℕ, _≤_, _<_}
+use lib.ListN.{length}
+use Rattle.command.specs.Text.{IsWritten}
+use Rattle.command.specs.declared.Command.{Command}
+use Rattle.command.specs.declared.Command.the-variants.{Open, Add, Remove, Round, Malformed}
+
+-- A good line: 01: "63 bytes at most", and each number "fits 32 bits".
+pub record IsGood (letter : ℕ) (ns line : List ℕ) : Type 0 where
+  pub short : length line ≤ 63
+  pub fits : (n : ℕ) → List·Mem n ns → n < 4_294_967_296
+  pub written : IsWritten letter ns line
+
+-- No command has this line.
+pub record IsMalformed (line : List ℕ) : Type 0 where
+  pub no-open : (b f g t : ℕ) → IsGood 79 (b ∷ f ∷ g ∷ t ∷ []) line → ⊥
+  pub no-add : (id s p d : ℕ) → IsGood 65 (id ∷ s ∷ p ∷ d ∷ []) line → ⊥
+  pub no-remove : (id : ℕ) → IsGood 68 (id ∷ []) line → ⊥
+  pub no-round : IsGood 82 [] line → ⊥
+
+-- 01: "O,B,F,G,T / A,id,S,P,D / D,id / R." "Any other line, the empty one too".
+abbrev pub Says : List ℕ → Command → Type 0
+Says line (Open b f g t) = IsGood 79 (b ∷ f ∷ g ∷ t ∷ []) line
+Says line (Add id s p d) = IsGood 65 (id ∷ s ∷ p ∷ d ∷ []) line
+Says line (Remove id) = IsGood 68 (id ∷ []) line
+Says line Round = IsGood 82 [] line
+Says line Malformed = IsMalformed line

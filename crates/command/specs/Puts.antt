@@ -1,0 +1,19 @@
+-- What is put into a lent buffer of bytes.
+use mathlib.Core.Path.{_≡_}
+use mathlib.Core.List.{List, [], _∷_, _++_}
+use Prim.Native.Nat.{ℕ, _+_, _≤_}
+use lib.ListN.{length, take, drop}
+use Rattle.command.specs.Text.{IsWritten}
+
+-- Bytes with a property stand in the buffer from `at` to r; all other places are as they were.
+pub record IsPut (P : List ℕ → Type 0) (before after : List ℕ) (at r : ℕ) : Type 0 where
+  pub bytes : List ℕ
+  pub property : P bytes
+  pub ends : r ≡ at + length bytes
+  pub content : after ≡ take at before ++ (bytes ++ drop r before)
+
+-- A line of a letter and numbers, and the byte 10 that ends it.
+pub record IsLine (letter : ℕ) (ns bytes : List ℕ) : Type 0 where
+  pub line : List ℕ
+  pub written : IsWritten letter ns line
+  pub ended : bytes ≡ line ++ (10 ∷ [])

@@ -1,0 +1,25 @@
+-- A whole script from memory into a lent buffer.
+use mathlib.Core.Path.{_≡_}
+use mathlib.Core.List.{List}
+use Prim.Native.Nat.{ℕ}
+use Rattle.planner.specs.Open.{IsFresh}
+use Rattle.command.specs.Runs.{HasRun, HasRunLast}
+use Rattle.command.specs.declared.lines.Reached.{Reached}
+
+-- 01: "Until an O succeeds the planner is closed." No line has been read, and nothing written.
+pub record IsBeginning (s : Reached) : Type 0 where
+  pub closed : IsFresh 0 0 0 0 (s .planner)
+  pub number : s .number ≡ 0
+  pub from : s .from ≡ 0
+  pub end : s .end ≡ 0
+
+-- Whole lines, then what is left; r bytes were written. Where the run stopped for want of room, what is left is not taken for a line.
+pub record IsScript (script before after : List ℕ) (r : ℕ) : Type 0 where
+  pub begins : Reached
+  pub beginning : IsBeginning begins
+  pub reached : Reached
+  pub middle : List ℕ
+  pub lines : HasRun begins script before middle reached
+  pub ended : Reached
+  pub last : HasRunLast reached script middle after ended
+  pub written : r ≡ ended .end

@@ -1,0 +1,2 @@
+-- What the parts of the command program promise one another.
+pub mod Session

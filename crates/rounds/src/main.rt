@@ -1,0 +1,4 @@
+// The command program.
+fn main() {
+    console::run();
+}

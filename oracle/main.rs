@@ -1,0 +1,59 @@
+//! A second implementation of document 01's planner and command program,
+//! written from the paper alone, to test the first against.
+
+mod count;
+mod generate;
+mod planner;
+mod program;
+mod selftest;
+
+use std::io::{self, Read, Write};
+use std::process::ExitCode;
+
+const USAGE: &str = "\
+oracle run                  answers the commands on standard input
+oracle generate SEED LINES  prints a random script of that many lines
+oracle count                counts the answers in an output on standard input
+oracle selftest             checks the cases of document 01 and itself
+";
+
+fn main() -> ExitCode {
+    let arguments: Vec<String> = std::env::args().skip(1).collect();
+    let words: Vec<&str> = arguments.iter().map(String::as_str).collect();
+    match words.as_slice() {
+        ["run"] => print(program::run(&input()).as_bytes()),
+        ["count"] => {
+            let output = input();
+            let text = String::from_utf8_lossy(&output);
+            print(count::Counts::of(&text).text().as_bytes())
+        }
+        ["generate", seed, lines] => match (seed.parse(), lines.parse()) {
+            (Ok(seed), Ok(lines)) => print(&generate::script(seed, lines)),
+            _ => usage(),
+        },
+        ["selftest"] => selftest::run(),
+        _ => usage(),
+    }
+}
+
+/// All of standard input, as bytes.
+fn input() -> Vec<u8> {
+    let mut bytes = Vec::new();
+    io::stdin()
+        .read_to_end(&mut bytes)
+        .expect("standard input can be read");
+    bytes
+}
+
+/// Prints bytes as they are.
+fn print(bytes: &[u8]) -> ExitCode {
+    match io::stdout().write_all(bytes) {
+        Ok(()) => ExitCode::SUCCESS,
+        Err(_) => ExitCode::FAILURE,
+    }
+}
+
+fn usage() -> ExitCode {
+    eprint!("{USAGE}");
+    ExitCode::from(2)
+}

@@ -1,0 +1,341 @@
+//! The planner of document 01, literal and slow: every rule is summed with
+//! divisions, for every length, at every call. Numbers are 64 bits wide, so
+//! no sum can pass its type. It shares nothing with the program it checks.
+
+/// "the last round start is 1,000,000,000"
+pub const LAST_START: u64 = 1_000_000_000;
+
+/// "at most 64 streams"
+const MOST_STREAMS: usize = 64;
+
+/// Lengths looked at beyond those that are enough (see `demand_rule` and
+/// `times`); none of the rules needs it.
+const MARGIN: u64 = 480;
+
+/// "each stream with its first unserved packet"; of that packet the release
+/// is kept, "due at S + k×P + D" is the release plus D.
+#[derive(Clone, Debug, PartialEq, Eq)]
+pub struct Stream {
+    pub id: u64,
+    pub period: u64,
+    pub deadline: u64,
+    pub release: u64,
+}
+
+impl Stream {
+    pub fn due(&self) -> u64 {
+        self.release + self.deadline
+    }
+
+    /// "A packet may ride in a round starting at s if it was released by s
+    /// (equality counts) and is due at s + 1 or later."
+    fn may_ride(&self, s: u64) -> bool {
+        self.release <= s && self.due() >= s + 1
+    }
+}
+
+/// "B, F, G, the last round's start L, and each stream with its first
+/// unserved packet."
+#[derive(Clone, Debug, PartialEq, Eq)]
+pub struct Planner {
+    pub slots: u64,
+    pub superframe: u64,
+    pub gap: u64,
+    pub last: u64,
+    pub streams: Vec<Stream>,
+}
+
+impl Planner {
+    /// "the closed planner: every number 0, no stream"
+    pub fn closed() -> Planner {
+        Planner {
+            slots: 0,
+            superframe: 0,
+            gap: 0,
+            last: 0,
+            streams: Vec::new(),
+        }
+    }
+
+    /// "It refuses 1 for B, 2 for F, 3 for G out of range, 4 for T above
+    /// 1,000,000,000. The new planner has L = T. A refusal hands back the
+    /// closed planner".
+    pub fn open(slots: u64, superframe: u64, gap: u64, time: u64) -> (Planner, u32) {
+        let answer = if !(1..=64).contains(&slots) {
+            1
+        } else if !(1..=5_040).contains(&superframe) {
+            2
+        } else if !(1..=255).contains(&gap) {
+            3
+        } else if time > LAST_START {
+            4
+        } else {
+            0
+        };
+        if answer != 0 {
+            return (Planner::closed(), answer);
+        }
+        let planner = Planner {
+            slots,
+            superframe,
+            gap,
+            last: time,
+            streams: Vec::new(),
+        };
+        (planner, 0)
+    }
+
+    /// A planner made by these operations is sound or closed, so the closed
+    /// one is the only one "not sound". (`sound` states it in full.)
+    pub fn is_closed(&self) -> bool {
+        self.slots == 0
+    }
+
+    /// "\"Now\" is L + 1."
+    pub fn now(&self) -> u64 {
+        self.last + 1
+    }
+
+    pub fn holds(&self, id: u64) -> bool {
+        self.streams.iter().any(|stream| stream.id == id)
+    }
+
+    /// The add: 0 with the stream held, or a refusal with nothing changed.
+    pub fn add(&mut self, id: u64, start: u64, period: u64, deadline: u64) -> u32 {
+        let answer = self.add_refusal(id, start, period, deadline);
+        if answer == 0 {
+            *self = self.with(id, start, period, deadline);
+        }
+        answer
+    }
+
+    /// "Refusals are tested in the order written; each is given whenever its
+    /// condition holds and no earlier one does."
+    fn add_refusal(&self, id: u64, start: u64, period: u64, deadline: u64) -> u32 {
+        // "5 for a planner not sound"
+        if self.is_closed() {
+            return 5;
+        }
+        // "6 for a bad id": "Ids are 1 to 32,767"
+        if !(1..=32_767).contains(&id) {
+            return 6;
+        }
+        // "7 for an id held"
+        if self.holds(id) {
+            return 7;
+        }
+        // "8 with 64 streams held"
+        if self.streams.len() >= MOST_STREAMS {
+            return 8;
+        }
+        // "9 for a bad P": "P is 1 to 240 and divides F"
+        if !(1..=240).contains(&period) || self.superframe % period != 0 {
+            return 9;
+        }
+        // "10 for a bad D": "D is 1 to P"
+        if !(1..=period).contains(&deadline) {
+            return 10;
+        }
+        // "11 for S before now or after now + 239"
+        if start < self.now() || start > self.now() + 239 {
+            return 11;
+        }
+        let table = self.with(id, start, period, deadline);
+        // "12 if the table with it breaks the demand rule"
+        if !table.demand_rule() {
+            return 12;
+        }
+        // "13 if it breaks the start rule"
+        if !table.start_rule() {
+            return 13;
+        }
+        0
+    }
+
+    /// The table with one stream more: its packet 0 is the first unserved.
+    fn with(&self, id: u64, start: u64, period: u64, deadline: u64) -> Planner {
+        let mut table = self.clone();
+        table.streams.push(Stream {
+            id,
+            period,
+            deadline,
+            release: start,
+        });
+        table
+    }
+
+    /// "It refuses 5, then 14 for an id not held. The stream's waiting packet
+    /// goes with it."
+    pub fn remove(&mut self, id: u64) -> u32 {
+        if self.is_closed() {
+            return 5;
+        }
+        if !self.holds(id) {
+            return 14;
+        }
+        self.streams.retain(|stream| stream.id != id);
+        0
+    }
+
+    /// "It refuses 5; 15 with no stream held; 16 for a buffer shorter than B;
+    /// 17 if the start is after 1,000,000,000. The answer is the start and
+    /// the count n; the ids stand in the first n places, and later places are
+    /// untouched."
+    pub fn round(&mut self, buffer: &mut [u16]) -> Result<(u64, usize), u32> {
+        if self.is_closed() {
+            return Err(5);
+        }
+        if self.streams.is_empty() {
+            return Err(15);
+        }
+        if (buffer.len() as u64) < self.slots {
+            return Err(16);
+        }
+        let start = self.next_start();
+        if start > LAST_START {
+            return Err(17);
+        }
+        let ids = self.slot_ids(start);
+        for (place, id) in buffer.iter_mut().zip(&ids) {
+            *place = u16::try_from(*id).expect("ids are 1 to 32,767");
+        }
+        self.serve(&ids);
+        self.last = start;
+        Ok((start, ids.len()))
+    }
+
+    /// "Slots: of the packets that may ride, the first B by due time, then
+    /// id, written in that order". As D is at most P, a stream's later packet
+    /// is released when the one before it is due or after, so at most the
+    /// first unserved packet of each stream may ride.
+    fn slot_ids(&self, start: u64) -> Vec<u64> {
+        let mut riders: Vec<&Stream> = self
+            .streams
+            .iter()
+            .filter(|stream| stream.may_ride(start))
+            .collect();
+        riders.sort_by_key(|stream| (stream.due(), stream.id));
+        riders.truncate(self.slots as usize);
+        riders.iter().map(|stream| stream.id).collect()
+    }
+
+    /// "each stream served passes to its next packet"
+    fn serve(&mut self, ids: &[u64]) {
+        for stream in &mut self.streams {
+            if ids.contains(&stream.id) {
+                stream.release += stream.period;
+            }
+        }
+    }
+
+    /// "the sum, over streams with D ≤ t, of floor((t - D) / P) + 1"
+    fn demand(&self, t: u64) -> u64 {
+        self.streams
+            .iter()
+            .filter(|stream| stream.deadline <= t)
+            .map(|stream| (t - stream.deadline) / stream.period + 1)
+            .sum()
+    }
+
+    /// "Demand rule: for every length t ≥ 1, the sum .. is at most B×t."
+    ///
+    /// Why t = 1 to F is far enough: a stream with D > t adds nothing, and as
+    /// D ≤ P its floor is then -1, so the formula may be read for all streams
+    /// at every t ≥ 0. As every P divides F, the sum at t + F is the sum at t
+    /// plus sum F/P, and the sum at F is sum F/P itself. If the rule holds at
+    /// F, then sum F/P ≤ B×F, and what holds at t holds at t + F.
+    pub fn demand_rule(&self) -> bool {
+        (1..=self.superframe + MARGIN).all(|t| self.demand(t) <= self.slots * t)
+    }
+
+    /// "Future demand h(t): the same sum with t minus the due time d of the
+    /// unserved packet, over streams with d ≤ t".
+    fn future_demand(&self, t: u64) -> u64 {
+        self.streams
+            .iter()
+            .filter(|stream| stream.due() <= t)
+            .map(|stream| (t - stream.due()) / stream.period + 1)
+            .sum()
+    }
+
+    /// The times t > now that are looked at for h(t).
+    ///
+    /// Why they reach far enough: an unserved packet is released at most at
+    /// now + 239 and due at most 240 later, so from now + 479 on every stream
+    /// is in the sum, and h(t + F) - h(t) = sum F/P. The demand rule at F says
+    /// that this is at most B×F. So h(t) - B×t does not grow from t to t + F:
+    /// a break of the start rule at t + F is one at t. And ceil(h(t) / B)
+    /// grows by at most F, so t - ceil(h(t) / B) does not fall from t to
+    /// t + F: the least is reached by now + 479 + F.
+    fn times(&self) -> std::ops::RangeInclusive<u64> {
+        self.now() + 1..=self.now() + 480 + self.superframe + MARGIN
+    }
+
+    /// "Start rule: h(t) ≤ B×(t - now) for every t > now."
+    pub fn start_rule(&self) -> bool {
+        self.times()
+            .all(|t| self.future_demand(t) <= self.slots * (t - self.now()))
+    }
+
+    /// "Lazy rule: the next start is the least of L + G and all
+    /// t - ceil(h(t) / B) with h(t) > 0." No due time is at now or before, so
+    /// h(t) = 0 up to now. Nothing is raised to now: for a sound planner the
+    /// least is never below it, and one that were would be a fault here.
+    fn next_start(&self) -> u64 {
+        let mut least = self.last + self.gap;
+        for t in self.times() {
+            let h = self.future_demand(t);
+            if h > 0 {
+                least = least.min(t - h.div_ceil(self.slots));
+            }
+        }
+        assert!(least >= self.now(), "a start before now");
+        least
+    }
+
+    /// "A planner is sound if (a) all values are in range, each P divides F
+    /// and ids differ; (b) each unserved packet held is due after now and
+    /// released no later than now + 239; (c) the demand rule and (d) the
+    /// start rule hold". There is no queue here, so (e) is void. Used by the
+    /// self-test only.
+    pub fn sound(&self) -> bool {
+        self.in_range()
+            && self
+                .streams
+                .iter()
+                .all(|stream| stream.due() > self.now() && stream.release <= self.now() + 239)
+            && self.demand_rule()
+            && self.start_rule()
+    }
+
+    /// Part (a) of `sound`.
+    fn in_range(&self) -> bool {
+        let count = |id| self.streams.iter().filter(|stream| stream.id == id).count();
+        (1..=64).contains(&self.slots)
+            && (1..=5_040).contains(&self.superframe)
+            && (1..=255).contains(&self.gap)
+            && self.last <= LAST_START
+            && self.streams.len() <= MOST_STREAMS
+            && self.streams.iter().all(|stream| {
+                (1..=32_767).contains(&stream.id)
+                    && count(stream.id) == 1
+                    && (1..=240).contains(&stream.period)
+                    && self.superframe % stream.period == 0
+                    && (1..=stream.period).contains(&stream.deadline)
+            })
+    }
+}
+
+/// "It refuses 18 if any period is not 1 to 240, 19 if the least common
+/// multiple is above 5,040, both with value 0. No periods give 1." The answer
+/// and the value.
+pub fn superframe(periods: &[u8]) -> (u32, u64) {
+    if !periods.iter().all(|period| (1..=240).contains(period)) {
+        return (18, 0);
+    }
+    let divides = |value: &u64| periods.iter().all(|period| value % u64::from(*period) == 0);
+    match (1..=5_040).find(divides) {
+        Some(value) => (0, value),
+        None => (19, 0),
+    }
+}

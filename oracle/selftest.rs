@@ -1,0 +1,281 @@
+//! Checks of the oracle itself: the cases that document 01 writes out, and
+//! generated scripts against a third way to the same answers, a simulation of
+//! rounds at every start.
+
+use crate::count::{self, Counts};
+use crate::generate;
+use crate::planner::{self, Planner, Stream};
+use crate::program::{self, Program};
+use std::process::ExitCode;
+
+/// Runs every check and says which ones fail.
+pub fn run() -> ExitCode {
+    let checks: [(&str, fn() -> bool); 9] = [
+        ("the three rounds and the other tables on the edge", tables),
+        ("figure 9 of document 004", figure_9),
+        ("superframe", superframes),
+        ("lines", lines),
+        ("numbers", numbers),
+        ("the closed planner and the clock's end", closed_and_end),
+        ("the slot buffer", buffer),
+        ("generated scripts against a simulation", simulated),
+        ("every answer in 20,000 generated lines", every_answer),
+    ];
+    let mut failures = 0;
+    for (name, check) in checks {
+        let good = check();
+        println!("{} {name}", if good { "good" } else { "FAIL" });
+        failures += u32::from(!good);
+    }
+    if failures == 0 {
+        ExitCode::SUCCESS
+    } else {
+        ExitCode::FAILURE
+    }
+}
+
+/// Input and output lines, written as in document 01 with " / " between.
+fn gives(input: &str, output: &str) -> bool {
+    let printed = program::run(input.replace(" / ", "\n").as_bytes());
+    let wanted: String = output
+        .split(" / ")
+        .map(|line| format!("{line}\n"))
+        .collect();
+    if printed != wanted {
+        println!(
+            "input {input}\nwanted {output}\nprinted {}",
+            printed.replace('\n', " / ")
+        );
+    }
+    printed == wanted
+}
+
+/// "Tables on the edge"
+fn tables() -> bool {
+    let three_rounds = gives(
+        "O,2,6,6,0 / A,1,1,3,2 / A,2,1,6,6 / A,3,2,6,5 / R / R / R / D,9 / X",
+        "O,0 / A,1,0 / A,2,0 / A,3,0 / R,0,2,2,1,2 / R,0,5,2,1,3 / R,0,8,2,1,2 / D,9,14 / E,20,9",
+    );
+    // "B=1, F=2, G=9, T=0: stream 1 (1,2,1) goes in; 2 (2,2,1) gets 12."
+    let demand = gives("O,1,2,9,0 / A,1,1,2,1 / A,2,2,2,1", "O,0 / A,1,0 / A,2,12");
+    // "B=1, F=10, G=20, T=0, streams 1 and 2 both (1,10,10): round at 9 sends
+    // 1. Then 3 as (10,10,1) gets 13; as (11,10,1) 0."
+    let start = gives(
+        "O,1,10,20,0 / A,1,1,10,10 / A,2,1,10,10 / R / A,3,10,10,1 / A,3,11,10,1",
+        "O,0 / A,1,0 / A,2,0 / R,0,9,1,1 / A,3,13 / A,3,0",
+    );
+    // "B=1, F=240, G=20, T=0, one (1,240,240): rounds at 20 with it, then 40
+    // with no slot."
+    let gap = gives(
+        "O,1,240,20,0 / A,1,1,240,240 / R / R",
+        "O,0 / A,1,0 / R,0,20,1,1 / R,0,40,0",
+    );
+    // "T=999,999,999, B=1, F=1, G=1, one (1,000,000,000,1,1): a round, then
+    // 17."
+    let end = gives(
+        "O,1,1,1,999999999 / A,1,1000000000,1,1 / R / R",
+        "O,0 / A,1,0 / R,0,1000000000,1,1 / R,17",
+    );
+    three_rounds && demand && start && gap && end
+}
+
+/// "B=5, F=100, G=20, T=0, nine of (8,4,3), then seven of (1,25,2): the first
+/// fifteen go in, the sixteenth gets 12"
+fn figure_9() -> bool {
+    let mut input = String::from("O,5,100,20,0");
+    let mut output = String::from("O,0");
+    for id in 1..=16 {
+        let values = if id <= 9 { "8,4,3" } else { "1,25,2" };
+        let answer = if id <= 15 { 0 } else { 12 };
+        input.push_str(&format!(" / A,{id},{values}"));
+        output.push_str(&format!(" / A,{id},{answer}"));
+    }
+    gives(&input, &output)
+}
+
+/// "Superframe of 5, 7, 15 is 105; of 240, 7, 9 is 5,040; of 240, 7, 11 gets
+/// 19." "No periods give 1." 18 is tested before 19.
+fn superframes() -> bool {
+    planner::superframe(&[5, 7, 15]) == (0, 105)
+        && planner::superframe(&[240, 7, 9]) == (0, 5_040)
+        && planner::superframe(&[240, 7, 11]) == (19, 0)
+        && planner::superframe(&[]) == (0, 1)
+        && planner::superframe(&[240, 7, 11, 0]) == (18, 0)
+        && planner::superframe(&[241]) == (18, 0)
+}
+
+/// "Lines end in LF (the last may lack it), 63 bytes at most before it".
+fn lines() -> bool {
+    let long = format!("{}\nR", "R".repeat(300));
+    let cut = format!("{}R\nR\n", " ".repeat(63));
+    program::run(b"").is_empty()
+        && program::run(b"\n") == "E,20,1\n"
+        && program::run(b"R") == "R,5\n"
+        && program::run(b"R\n") == "R,5\n"
+        && program::run(b"R\n\n") == "R,5\nE,20,2\n"
+        && program::run(b"R\r\nr\n R\nR\0\n\xff\n") == "E,20,1\nE,20,2\nE,20,3\nE,20,4\nE,20,5\n"
+        && program::run(long.as_bytes()) == "E,20,1\nR,5\n"
+        && program::run(cut.as_bytes()) == "E,20,1\nR,5\n"
+}
+
+/// "A number has no sign and no leading zero unless it is 0, and fits 32
+/// bits."
+fn numbers() -> bool {
+    gives(
+        "D,0 / D,00 / D,01 / D,+1 / D,-1",
+        "D,0,5 / E,20,2 / E,20,3 / E,20,4 / E,20,5",
+    ) && gives(
+        "D,4294967295 / D,4294967296 / D,",
+        "D,4294967295,5 / E,20,2 / E,20,3",
+    ) && gives(
+        "D,1,1 / D / R, / O,1,1,1 / A,1,1,1,1,1 / 1",
+        "E,20,1 / E,20,2 / E,20,3 / E,20,4 / E,20,5 / E,20,6",
+    ) && gives(
+        "O,1,1,1,0 / A,65537,1,1,1 / D,65537",
+        "O,0 / A,65537,6 / D,65537,14",
+    )
+}
+
+/// "Until an O succeeds the planner is closed. A refused O closes it." A
+/// damaged O does not. At the clock's end streams still go in, and a round
+/// refused with 17 may be held later, if an urgent stream comes.
+fn closed_and_end() -> bool {
+    gives("A,0,0,0,0 / D,0 / R", "A,0,5 / D,0,5 / R,5")
+        && gives(
+            "O,1,1,1,0 / O,1,1,1 / R / O,0,0,0,0 / R",
+            "O,0 / E,20,2 / R,15 / O,1 / R,5",
+        )
+        && gives(
+            "O,0,0,0,1000000001 / O,1,0,0,1000000001 / O,1,1,0,1000000001 / O,1,1,1,1000000001",
+            "O,1 / O,2 / O,3 / O,4",
+        )
+        && gives(
+            "O,1,1,1,1000000000 / R / A,1,1000000000,1,1 / A,1,1000000001,1,1 / R",
+            "O,0 / R,15 / A,1,11 / A,1,0 / R,17",
+        )
+        && gives(
+            "O,1,240,255,999999990 / A,1,999999991,240,240 / R / A,2,999999995,240,2 / R / R",
+            "O,0 / A,1,0 / R,17 / A,2,0 / R,0,999999996,1,2 / R,17",
+        )
+}
+
+/// "16 for a buffer shorter than B", after 15 and before 17; "later places
+/// are untouched".
+fn buffer() -> bool {
+    let (mut planner, _) = Planner::open(2, 1, 1, planner::LAST_START - 1);
+    let mut short = [7_u16; 1];
+    let mut long = [7_u16; 3];
+    let none = planner.round(&mut short) == Err(15);
+    planner.add(5, planner::LAST_START, 1, 1);
+    let too_short = planner.round(&mut short) == Err(16);
+    let held = planner.round(&mut long) == Ok((planner::LAST_START, 1));
+    let written = long == [5, 7, 7] && short == [7];
+    let still_short = planner.round(&mut short) == Err(16);
+    let late = planner.round(&mut long) == Err(17);
+    none && too_short && held && written && still_short && late
+}
+
+/// Generated scripts: the planner stays sound, and 12, 13 and each start are
+/// what a simulation says.
+fn simulated() -> bool {
+    (1..=5).all(|seed| simulated_script(&generate::script(seed, 3_000)))
+}
+
+fn simulated_script(script: &[u8]) -> bool {
+    let mut program = Program::new();
+    for line in script.split(|byte| *byte == b'\n') {
+        let before = program.planner.clone();
+        let printed = program.line(line);
+        let after = &program.planner;
+        // Tables with a long superframe take too long here.
+        if before.is_closed() || before.superframe > 480 {
+            continue;
+        }
+        let good = (after.is_closed() || after.sound())
+            && match printed.as_bytes()[0] {
+                b'A' => add_as_simulated(&before, line, count::number(&printed)),
+                b'R' => round_as_simulated(&before, after, count::number(&printed)),
+                _ => true,
+            };
+        if !good {
+            println!("after {before:?}\nprinted {printed}");
+            return false;
+        }
+    }
+    true
+}
+
+/// The first rule "fails exactly if no plan serves the table with every start
+/// and the moment at 0; where it holds, the second fails exactly if no plan
+/// from now serves the planner's table".
+fn add_as_simulated(before: &Planner, line: &[u8], answer: usize) -> bool {
+    if ![0, 12, 13].contains(&answer) {
+        return true;
+    }
+    let text = String::from_utf8_lossy(line);
+    let numbers: Vec<u64> = text
+        .split(',')
+        .skip(1)
+        .map(|n| n.parse().unwrap())
+        .collect();
+    let mut table = before.clone();
+    table.streams.push(Stream {
+        id: numbers[0],
+        release: numbers[1],
+        period: numbers[2],
+        deadline: numbers[3],
+    });
+    let mut at_0 = table.clone();
+    at_0.streams
+        .iter_mut()
+        .for_each(|stream| stream.release = 0);
+    let wanted = if !served(&at_0, 0) {
+        12
+    } else if !served(&table, table.now()) {
+        13
+    } else {
+        0
+    };
+    answer == wanted
+}
+
+/// The start is the last one, up to L + G, from which rounds at every start
+/// still serve the table; 17 is for that start alone.
+fn round_as_simulated(before: &Planner, after: &Planner, answer: usize) -> bool {
+    if answer != 0 && answer != 17 {
+        return true;
+    }
+    let mut start = before.last + before.gap;
+    while !served(before, start) {
+        start -= 1;
+    }
+    let late = start > planner::LAST_START;
+    (answer == 17) == late && after.last == if late { before.last } else { start }
+}
+
+/// Whether rounds at every start from a moment on, each with the earliest due
+/// first, send every packet in time.
+fn served(table: &Planner, moment: u64) -> bool {
+    let mut streams = table.streams.clone();
+    let end = moment + 480 + table.superframe;
+    for s in moment..=end {
+        if streams.iter().any(|stream| stream.due() <= s) {
+            return false;
+        }
+        streams.sort_by_key(Stream::due);
+        let released = streams.iter_mut().filter(|stream| stream.release <= s);
+        for stream in released.take(table.slots as usize) {
+            stream.release += stream.period;
+        }
+    }
+    true
+}
+
+/// A script of 20,000 lines gives each answer that can occur a dozen times.
+fn every_answer() -> bool {
+    let counts = Counts::of(&program::run(&generate::script(1, 20_000)));
+    let possible = (0..=15).chain([17, 20]);
+    possible
+        .into_iter()
+        .all(|number| counts.total(number) >= 12)
+}

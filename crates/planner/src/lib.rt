@@ -16,6 +16,7 @@ mod slots;
 mod soundness;
 
 // B, F, G and L, the streams in ascending id, and the queue that files them under their due times.
+#[repr(C)]
 pub struct Planner {
     pub slots: u32,
     pub frame: u32,

@@ -25,6 +25,7 @@ mod sound;
 mod soundness;
 
 // Places 0 to 63 hold entries, id 0 where a place is free; node 64 + b is the head of bucket b. `next` and `prev` link the nodes.
+#[repr(C)]
 pub struct Queue {
     pub ids: [u16; 64],
     pub keys: [u32; 64],

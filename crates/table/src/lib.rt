@@ -19,6 +19,7 @@ mod range;
 mod start;
 
 // A stream, with the release of its first unserved packet.
+#[repr(C)]
 pub struct Stream {
     pub id: u32,
     pub period: u32,
@@ -27,6 +28,7 @@ pub struct Stream {
 }
 
 // The streams are those in the first `count` places.
+#[repr(C)]
 pub struct Table {
     pub count: usize,
     pub streams: [Stream; 64],

@@ -1,0 +1,24 @@
+-- What the forms over a lent planner promise: the same as the calls by value, with the planner behind the reference at exit.
+use mathlib.Core.List.{List}
+use Prim.Native.Nat.{ℕ}
+use Rattle.planner.specs.Open.{IsOpened}
+use Rattle.planner.specs.Calls.{IsAdd, IsRemove}
+use Rattle.planner.specs.Round.{IsRound}
+use Rattle.planner.specs.declared.Planner.{Planner}
+use Rattle.lent.specs.declared.Held.{Held}
+
+-- The answer, and the planner at exit, are those of open.
+abbrev pub IsLentOpen : ℕ → ℕ → ℕ → ℕ → Planner → ℕ → Type 0
+IsLentOpen slots frame gap last after r = IsOpened slots frame gap last (record { answer = r; planner = after })
+
+-- The same for add.
+abbrev pub IsLentAdd : Planner → ℕ → ℕ → ℕ → ℕ → Planner → ℕ → Type 0
+IsLentAdd before id start period deadline after r = IsAdd before id start period deadline (record { answer = r; planner = after })
+
+-- The same for remove.
+abbrev pub IsLentRemove : Planner → ℕ → Planner → ℕ → Type 0
+IsLentRemove before id after r = IsRemove before id (record { answer = r; planner = after })
+
+-- The same for round, and the buffer at exit is that of round.
+abbrev pub IsLentRound : Planner → List ℕ → List ℕ → Planner → Held → Type 0
+IsLentRound before buffer written after r = IsRound before buffer written (record { answer = r .answer; planner = after; start = r .start; n = r .n })

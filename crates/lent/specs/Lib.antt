@@ -1,0 +1,2 @@
+-- What the forms over a lent planner promise.
+pub mod Lent

@@ -1,0 +1,76 @@
+// The planner that the firmware keeps and lends to each call to be changed: thin forms over the calls by value, exported to C.
+ghost use mathlib.Core.Path.{_≡_};
+ghost use lib.ListN.{length, take};
+ghost use Rattle.lent.specs.Lent.{IsLentOpen, IsLentAdd, IsLentRemove, IsLentRound};
+use planner::Changed;
+use planner::Planner;
+use planner::Rounded;
+use queue::Queue;
+use table::Stream;
+use table::Table;
+
+// What a round answers beside the planner: its start and the count of ids written, both 0 if refused.
+#[repr(C)]
+pub struct Held {
+    pub answer: u32,
+    pub start: u32,
+    pub n: u32,
+}
+
+// Opens the lent planner, whatever it held; the answer is that of open.
+#[no_mangle]
+pub extern "C" fn planner_open(p: &mut Planner, slots: u32, frame: u32, gap: u32, last: u32) -> u32
+    ensures { λ r. ⌜ IsLentOpen slots frame gap last (now (p .exit)) r ⌝ }
+{
+    let done = planner::open(slots, frame, gap, last);
+    *p = done.planner;
+    done.answer
+}
+
+// Adds a stream to the lent planner; the answer is that of add.
+#[no_mangle]
+pub extern "C" fn planner_add(
+    p: &mut Planner,
+    id: u32,
+    start: u32,
+    period: u32,
+    deadline: u32,
+) -> u32
+    ensures { λ r. ⌜ IsLentAdd (now (p .entry)) id start period deadline (now (p .exit)) r ⌝ }
+{
+    let done = planner::add(*p, id, start, period, deadline);
+    *p = done.planner;
+    done.answer
+}
+
+// Takes a stream out of the lent planner; the answer is that of remove.
+#[no_mangle]
+pub extern "C" fn planner_remove(p: &mut Planner, id: u32) -> u32
+    ensures { λ r. ⌜ IsLentRemove (now (p .entry)) id (now (p .exit)) r ⌝ }
+{
+    let done = planner::remove(*p, id);
+    *p = done.planner;
+    done.answer
+}
+
+// Holds a round of the lent planner, and writes its ids into the buffer; the answer is that of round.
+#[no_mangle]
+pub extern "C" fn planner_round(p: &mut Planner, buffer: &mut [u16]) -> Held
+    ensures { λ r. ⌜ IsLentRound (now (p .entry)) (now (buffer .entry)) (now (buffer .exit)) (now (p .exit)) r ⌝ }
+{
+    let done = planner::round(*p, buffer);
+    *p = done.planner;
+    Held {
+        answer: done.answer,
+        start: done.start,
+        n: done.n,
+    }
+}
+
+// How long the part is that `planner::filled` hands back: C takes that many places from the front of its own buffer.
+#[no_mangle]
+pub extern "C" fn planner_filled(buffer: &[u16], n: u32) -> usize
+    ensures { λ r. ⌜ r ≡ length (take n (now (buffer .entry))) ⌝ }
+{
+    planner::filled(buffer, n).len()
+}

@@ -1,0 +1,68 @@
+/* The planner's lines of document 01's example, by a program that keeps one planner and lends it to each call. */
+#include <stdio.h>
+#include <string.h>
+
+#include "planner.h"
+
+/* The layout of the library's structs: a compiler that lays them out in another way stops here. */
+_Static_assert(sizeof(size_t) == 8, "size_t");
+_Static_assert(sizeof(struct planner_stream) == 16, "stream");
+_Static_assert(offsetof(struct planner_stream, period) == 4, "stream.period");
+_Static_assert(offsetof(struct planner_stream, deadline) == 8, "stream.deadline");
+_Static_assert(offsetof(struct planner_stream, release) == 12, "stream.release");
+_Static_assert(sizeof(struct planner_table) == 1032, "table");
+_Static_assert(offsetof(struct planner_table, streams) == 8, "table.streams");
+_Static_assert(sizeof(struct planner_queue) == 2560, "queue");
+_Static_assert(offsetof(struct planner_queue, keys) == 128, "queue.keys");
+_Static_assert(offsetof(struct planner_queue, next) == 384, "queue.next");
+_Static_assert(offsetof(struct planner_queue, prev) == 1472, "queue.prev");
+_Static_assert(sizeof(struct planner) == 3608, "planner");
+_Static_assert(_Alignof(struct planner) == 8, "planner's alignment");
+_Static_assert(offsetof(struct planner, frame) == 4, "planner.frame");
+_Static_assert(offsetof(struct planner, gap) == 8, "planner.gap");
+_Static_assert(offsetof(struct planner, last) == 12, "planner.last");
+_Static_assert(offsetof(struct planner, table) == 16, "planner.table");
+_Static_assert(offsetof(struct planner, queue) == 1048, "planner.queue");
+_Static_assert(sizeof(struct planner_held) == 12, "held");
+_Static_assert(offsetof(struct planner_held, start) == 4, "held.start");
+_Static_assert(offsetof(struct planner_held, n) == 8, "held.n");
+
+static struct planner kept;
+
+static void add(uint32_t id, uint32_t start, uint32_t period, uint32_t deadline) {
+    printf("A,%u,%u\n", (unsigned)id, (unsigned)planner_add(&kept, id, start, period, deadline));
+}
+
+static void hold(void) {
+    uint16_t buffer[64];
+    struct planner_held held = planner_round(&kept, buffer, 64);
+    size_t filled = planner_filled(buffer, 64, held.n);
+    printf("R,%u", (unsigned)held.answer);
+    if (held.answer == 0) {
+        printf(",%u,%u", (unsigned)held.start, (unsigned)held.n);
+    }
+    for (size_t k = 0; k < filled; k++) {
+        printf(",%u", (unsigned)buffer[k]);
+    }
+    printf("\n");
+}
+
+/* Whether the library wrote the fields where this program reads them. After the three rounds, by hand: stream 1 was sent at 2, 5
+ * and 8 and is next released at 10, stream 2 at 2 and 8 and next at 13, stream 3 at 5 and next at 8. */
+static int fields_agree(void) {
+    const struct planner_stream expected[] = {{1, 3, 2, 10}, {2, 6, 6, 13}, {3, 6, 5, 8}};
+    return kept.slots == 2 && kept.frame == 6 && kept.gap == 6 && kept.last == 8 && kept.table.count == 3
+        && memcmp(kept.table.streams, expected, sizeof expected) == 0;
+}
+
+int main(void) {
+    printf("O,%u\n", (unsigned)planner_open(&kept, 2, 6, 6, 0));
+    add(1, 1, 3, 2);
+    add(2, 1, 6, 6);
+    add(3, 2, 6, 5);
+    hold();
+    hold();
+    hold();
+    printf("D,9,%u\n", (unsigned)planner_remove(&kept, 9));
+    return fields_agree() ? 0 : 1;
+}

@@ -1,0 +1,94 @@
+/* The lazy round planner, for a firmware that keeps one planner and lends it to each call.
+ *
+ * What is said of each call here is proved of it, on every planner whatever it holds, every number and every buffer; the full
+ * statement is that of the call by value (docs/RULES.md). Each call returns 0 or the number of the first refusal that applies.
+ * A refused call leaves planner and buffer as they were, but for open, which leaves the closed planner: every other call
+ * refuses it with 5. Every call tests the whole planner first, so a planner that was damaged in memory is refused with 5.
+ *
+ * What C has to keep, since nothing checks a call or this file against the source:
+ *   - a 64-bit x86 machine: the library is built for it, and size_t is 8 bytes;
+ *   - the structs as they stand here, with the layout and alignment that C gives them; the examples check sizes and offsets;
+ *   - no pointer is null, buffers of length 0 included, and each is aligned for its type;
+ *   - a planner's memory has been written before it is lent (to open too: zeros will do), so that every byte has a value;
+ *   - buffer points to `length` ids that can be read and, for planner_round, written; length is at most the buffer's real one;
+ *   - the buffer does not overlap the planner, and nobody else reads or writes either during a call.
+ * The functions keep no pointer, need no heap, call nothing outside and always return.
+ */
+#ifndef PLANNER_H
+#define PLANNER_H
+
+#include <stddef.h>
+#include <stdint.h>
+
+#ifdef __cplusplus
+extern "C" {
+#endif
+
+#define PLANNER_PLACES 64
+#define PLANNER_NODES 544
+
+/* A stream, with the release of its first unserved packet. */
+struct planner_stream {
+    uint32_t id;
+    uint32_t period;
+    uint32_t deadline;
+    uint32_t release;
+};
+
+/* The streams are those in the first `count` places, in ascending id. */
+struct planner_table {
+    size_t count;
+    struct planner_stream streams[PLANNER_PLACES];
+};
+
+/* The queue of due times. Its fields are for the library alone. */
+struct planner_queue {
+    uint16_t ids[PLANNER_PLACES];
+    uint32_t keys[PLANNER_PLACES];
+    uint16_t next[PLANNER_NODES];
+    uint16_t prev[PLANNER_NODES];
+};
+
+/* B, F, G and L of document 01, the streams and the queue that files them. To be read, and to be copied whole (a host that takes
+ * over gets such a copy); only the calls write it. */
+struct planner {
+    uint32_t slots;
+    uint32_t frame;
+    uint32_t gap;
+    uint32_t last;
+    struct planner_table table;
+    struct planner_queue queue;
+};
+
+/* What a round answers: its start and the count of ids written, both 0 if refused. */
+struct planner_held {
+    uint32_t answer;
+    uint32_t start;
+    uint32_t n;
+};
+
+/* Opens the planner, whatever it held: B = slots, F = frame, G = gap, L = last, and no stream.
+ * Refuses 1 unless slots is 1 to 64, 2 unless frame is 1 to 5,040, 3 unless gap is 1 to 255, 4 if last is above 1,000,000,000;
+ * refused, it leaves the closed planner. */
+uint32_t planner_open(struct planner *p, uint32_t slots, uint32_t frame, uint32_t gap, uint32_t last);
+
+/* Adds a stream whose first packet is released at start. Refuses 5; 6 unless id is 1 to 32,767; 7 for an id held; 8 with 64
+ * streams; 9 unless period is 1 to 240 and divides frame; 10 unless deadline is 1 to period; 11 unless start is last + 1 to
+ * last + 240; 12 if the table with it breaks the demand rule; 13 if it breaks the start rule. */
+uint32_t planner_add(struct planner *p, uint32_t id, uint32_t start, uint32_t period, uint32_t deadline);
+
+/* Takes a stream out. Refuses 5, and 14 where there is no such stream. */
+uint32_t planner_remove(struct planner *p, uint32_t id);
+
+/* Holds the next round: its start, and n ids in the buffer's first n places; later places are untouched.
+ * Refuses 5; 15 with no stream; 16 if length is below slots; 17 if the start is after 1,000,000,000. */
+struct planner_held planner_round(struct planner *p, uint16_t *buffer, size_t length);
+
+/* How many places of the buffer a round that answered n has filled, from its front: n, or length if n is above it. */
+size_t planner_filled(const uint16_t *buffer, size_t length, uint32_t n);
+
+#ifdef __cplusplus
+}
+#endif
+
+#endif

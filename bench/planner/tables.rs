@@ -1,0 +1,186 @@
+// The tables that are measured: 8 and 64 streams at three loads, made with a fixed seed, after a long run of rounds.
+use super::analytic::Analytic;
+use super::plain::Plain;
+use super::proved::Planner;
+use super::{Call, Host, Offer};
+
+const FRAME: u32 = 5040;
+const GAP: u32 = 200;
+const ROUNDS: u32 = 1000;
+
+struct Random(u64);
+
+impl Random {
+    // 0 to limit - 1.
+    fn below(&mut self, limit: u32) -> u32 {
+        self.0 = self.0.wrapping_mul(6364136223846793005).wrapping_add(1442695040888963407);
+        ((self.0 >> 33) % u64::from(limit)) as u32
+    }
+}
+
+pub struct Table {
+    pub name: String,
+    slots: u32,
+    busy: u32,
+    periods: Vec<u32>,
+}
+
+// One state in the hands of all three.
+#[derive(Clone)]
+pub struct Hosts {
+    pub proved: Planner,
+    pub plain: Plain,
+    pub analytic: Analytic,
+}
+
+impl Hosts {
+    fn of(proved: Planner, slots: u32) -> Hosts {
+        let streams = proved.streams();
+        let plain = Plain::of(slots, FRAME, GAP, proved.last, &streams);
+        let analytic = Analytic::of(slots, FRAME, GAP, proved.last, &streams);
+        Hosts { proved, plain, analytic }
+    }
+}
+
+pub struct Case {
+    pub name: &'static str,
+    pub hosts: Hosts,
+    pub call: Call,
+}
+
+pub struct Setup {
+    pub name: String,
+    pub busy: u32,
+    pub cases: Vec<Case>,
+}
+
+fn periods() -> Vec<u32> {
+    (1..=240).filter(|p| FRAME % p == 0).collect()
+}
+
+// The least length by which all that is released in it, from a common start, can be sent; none above the superframe.
+fn busy_length(slots: u32, periods: &[u32]) -> Option<u32> {
+    let mut t = 1;
+    while t <= FRAME {
+        let needed = periods.iter().map(|p| t.div_ceil(*p)).sum::<u32>().div_ceil(slots);
+        if needed <= t {
+            return Some(t);
+        }
+        t = needed;
+    }
+    None
+}
+
+fn drawn(random: &mut Random, n: usize) -> Vec<u32> {
+    let from: Vec<u32> = periods().into_iter().filter(|p| *p >= 8).collect();
+    (0..n).map(|_| from[random.below(from.len() as u32) as usize]).collect()
+}
+
+fn fewest_slots(periods: &[u32]) -> u32 {
+    periods.iter().map(|p| FRAME / p).sum::<u32>().div_ceil(FRAME)
+}
+
+// Periods and slots with a busy length from `low` to `high`: n - 2 periods are drawn, the last two tried in all ways.
+fn table(random: &mut Random, n: usize, load: &str, low: u32, high: u32) -> Table {
+    loop {
+        let drawn = drawn(random, n - 2);
+        for last in periods() {
+            for other in periods().into_iter().filter(|p| *p <= last) {
+                let all: Vec<u32> = drawn.iter().copied().chain([other, last]).collect();
+                for slots in fewest_slots(&all)..=fewest_slots(&all) + n as u32 {
+                    match busy_length(slots, &all) {
+                        Some(busy) if low <= busy && busy <= high && slots <= 64 => {
+                            return Table { name: format!("{n}-{load}"), slots, busy, periods: all };
+                        }
+                        _ => {}
+                    }
+                }
+            }
+        }
+    }
+}
+
+// Each table has a seed of its own, so that one can be made without the others.
+pub fn all(only: Option<&str>) -> Vec<Table> {
+    let loads = [("light", 2, 8), ("medium", 20, 99), ("full", 4500, FRAME)];
+    let mut tables = vec![];
+    for n in [8, 64] {
+        for (load, low, high) in loads {
+            if only.is_none_or(|name| name == format!("{n}-{load}")) {
+                tables.push(table(&mut Random(n as u64), n, load, low, high));
+            }
+        }
+    }
+    tables
+}
+
+// The stream that was taken out, at any start: accepted, it makes the table as busy as before.
+fn same_again(now: u32, period: u32) -> Vec<Offer> {
+    (now..now + 240).map(|start| Offer { id: 999, start, period, deadline: period }).collect()
+}
+
+// Streams that ask for much or at once.
+fn demanding(now: u32) -> Vec<Offer> {
+    let pairs = [240, 60, 8, 1].into_iter().flat_map(|period| [period, period.min(3), period.min(2), 1].map(|deadline| (period, deadline)));
+    pairs.flat_map(|(period, deadline)| [now, now + 1].map(|start| Offer { id: 999, start, period, deadline })).collect()
+}
+
+// The first offer that the planner answers so; it is not changed.
+fn offer_with_answer(p: &Planner, answer: u32, period: u32) -> Option<Offer> {
+    let now = p.last + 1;
+    let offers = if answer == 0 { same_again(now, period) } else { demanding(now) };
+    offers.into_iter().find(|offer| p.clone().add(*offer) == answer)
+}
+
+impl Table {
+    // Every stream at a start that is accepted, and a deadline below its period where there is room for that.
+    fn filled(&self) -> Planner {
+        let mut random = Random(11);
+        let mut p = Planner::open(self.slots, FRAME, GAP);
+        for (i, period) in self.periods.iter().enumerate() {
+            let mut tries = 0;
+            loop {
+                let shorter = if self.busy < 100 && tries < 200 { random.below(period / 2 + 1) } else { 0 };
+                let offer = Offer { id: i as u32 + 1, start: 1 + random.below(240), period: *period, deadline: period - shorter };
+                if p.add(offer) == 0 {
+                    break;
+                }
+                tries += 1;
+                assert!(tries < 10_000, "no start is accepted: {} {i}", self.name);
+            }
+        }
+        for _ in 0..ROUNDS {
+            p.round();
+        }
+        p
+    }
+
+    // All calls, or one alone.
+    pub fn setup(&self, only: Option<&str>) -> Setup {
+        let wanted = |name: &str| only.is_none_or(|o| o == name);
+        let filled = self.filled();
+        let last = self.periods.len() as u32;
+        let mut cases = vec![];
+        let mut case = |name, p: &Planner, call| cases.push(Case { name, hosts: Hosts::of(*p, self.slots), call });
+        case("round", &filled, Call::Round);
+        case("remove", &filled, Call::Remove(last));
+        // one stream fewer, so that there is room for an offer
+        let mut fewer = filled;
+        fewer.remove(last);
+        for (name, answer) in [("add", 0), ("add, 12", 12), ("add, 13", 13)].into_iter().filter(|a| wanted(a.0)) {
+            let mut p = fewer;
+            let mut found = offer_with_answer(&p, answer, self.periods[last as usize - 1]);
+            for _ in 0..ROUNDS {
+                if found.is_some() {
+                    break;
+                }
+                p.round();
+                found = offer_with_answer(&p, answer, self.periods[last as usize - 1]);
+            }
+            if let Some(offer) = found {
+                case(name, &p, Call::Add(offer));
+            }
+        }
+        Setup { name: self.name.clone(), busy: self.busy, cases }
+    }
+}

@@ -46,18 +46,21 @@ impl Buckets {
         set(&mut self.prev, n as usize, p);
     }
 
-    fn file(&mut self, x: usize, key: u32) {
+    fn set_key(&mut self, x: usize, key: u32) {
         set(&mut self.keys, x, key);
-        self.link_before(x, Buckets::head_of(key));
         if key < self.low {
             self.low = key;
             self.head = Buckets::head_of(key);
         }
     }
 
+    fn file(&mut self, x: usize, key: u32) {
+        self.set_key(x, key);
+        self.link_before(x, Buckets::head_of(key));
+    }
+
     fn file_by_id(&mut self, x: usize, key: u32, ids: &[u16; 64]) {
-        self.file(x, key);
-        self.unlink(x);
+        self.set_key(x, key);
         let mut n = get(&self.next, Buckets::head_of(key)) as usize;
         while n < 64 && get(ids, n) < get(ids, x) {
             n = get(&self.next, n) as usize;

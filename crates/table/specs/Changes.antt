@@ -54,15 +54,17 @@ pub record HasStreams (ss : List Stream) (table : Table) : Type 0 where
   pub streams : streams-of table ≡ ss
   pub count : table .count ≤ 64
 
--- What a change relies on: that the count is right, and ids rise.
+-- What putting a stream in relies on: that a place is free.
 pub record CanPut (table : Table) : Type 0 where
   pub room : table .count < 64
 
+-- What taking out or finding the stream of an id relies on: that the count is right, ids rise, and the id is held.
 pub record CanChange (table : Table) (id : ℕ) : Type 0 where
   pub count : table .count ≤ 64
   pub ascending : Ascending (streams-of table)
   pub held : HasId id (streams-of table)
 
+-- What serving relies on: the same, and that the next release fits a number.
 pub record CanServe (table : Table) (id : ℕ) : Type 0 where
   pub can-change : CanChange table id
   pub near : (s : Stream) → List·Mem s (streams-of table) → (s .release ≤ 2_000_000_000) × (s .period ≤ 240)

@@ -1,4 +1,4 @@
--- The arrays of a table and of a walk that a function is handed are as long as their types say.
+-- The array of a table that a function is handed is as long as its type says.
 use mathlib.Core.Path.{_≡_, sym, _∙_}
 use mathlib.Core.List.{List}
 use Prim.Native.Nat.{_≤_}
@@ -8,16 +8,11 @@ use mir.Val.{Val}
 use denote.Laws.{Is}
 use denote.Struct.Declared.{row}
 use Rattle.table.specs.declared.Table.{Table}
-use Rattle.table.specs.declared.lengths.Walk.{Walk}
 use Rattle.table.proofs.Stream
 use Rattle.table.proofs.Table
-use Rattle.table.proofs.lengths.Walk
 
 pub table-shape : (table : Table) (vs : List Val) → Is (row Rattle.table.proofs.Table.the-type) table vs → length (table .streams) ≡ 64
 table-shape table vs is = let fields = is .1 .1 in sym (length-map (table .streams) (Rattle.table.proofs.Stream.the-type .to)) ∙ fields .1 .0 .1 .0 .1
 
 pub table-holds : (table : Table) (vs : List Val) → Is (row Rattle.table.proofs.Table.the-type) table vs → table .count ≤ 64 → table .count ≤ length (table .streams)
 table-holds table vs is few = omega (arith, table-shape table vs is)
-
-pub walk-shape : (walk : Walk) (vs : List Val) → Is (row Rattle.table.proofs.lengths.Walk.the-type) walk vs → length (walk .times) ≡ 64
-walk-shape walk vs is = let fields = is .1 .1 in sym (length-map (walk .times) (λ v. v)) ∙ fields .0 .1 .0 .1

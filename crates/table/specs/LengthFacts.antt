@@ -1,5 +1,5 @@
--- How a walk begins, and how it goes one length further: one stream first, then the whole table.
-use mathlib.Core.Path.{_≡_, refl, sym, subst, ap, _∙_}
+-- How due times go one length further, and what a walk of them counts: one stream first, then the whole table.
+use mathlib.Core.Path.{_≡_, refl, sym, ap, _∙_}
 use mathlib.Core.Logic.{if-pos, if-neg}
 use mathlib.Core.HLevel.{×-prop}
 use mathlib.Core.List.{List}
@@ -17,24 +17,9 @@ use Rattle.rules.specs.Demand.{packets-by}
 use Rattle.rules.specs.Division.{packets-none, packets-mono, window, ceil-least, counted-iff-due}
 use Rattle.rules.specs.CountBy.{count-by, count-by-one-more, count-by-none}
 use Rattle.table.specs.Table.{streams-of, stream-at}
-use Rattle.table.specs.Lengths.{next-after, hits, after-hit, IsWalk, CanAdvance, IsAdvance}
+use Rattle.table.specs.Lengths.{next-after, hits, after-hit, hits-before, HasPeriods, IsWalk, CanAdvance, IsAdvance}
 use Rattle.table.specs.TableFacts.{Rows, row-at, first-rows, one-row-more, all-rows, one-place-more}
 use Rattle.table.specs.declared.Table.{Table}
-use Rattle.table.specs.declared.lengths.Walk.{Walk}
-
--- before every first due time nothing is counted
-pub walk-begins : (first : Stream → ℕ) (table : Table) → table .count ≤ 64 → (t : ℕ) → ((k : ℕ) → k < table .count → t < first (stream-at table k))
-    → (times : List ℕ) → ((k : ℕ) → k < table .count → getD times k 0 ≡ first (stream-at table k))
-    → ((k : ℕ) → k < table .count → 1 ≤ stream-at table k .period)
-    → IsWalk first table t (record { times = times; sum = 0 })
-unfolding next-after
-walk-begins first table few t late times begin periods = record {
-  times = λ k low.
-      let none = packets-none (stream-at table k .period) (periods k low) (first (stream-at table k)) t (late k low) in
-      rw none (omega (arith, begin k low));
-  counted = sym (count-by-none first (streams-of table) t
-      (all-rows (λ s. (1 ≤ s .period) × (t < first s)) (λ s. ×-prop le-prop le-prop) (table .streams) (table .count) (λ k low. (periods k low, late k low))));
-}
 
 pub hits-yes : (time t : ℕ) → time ≡ t → hits time t ≡ 1
 unfolding hits
@@ -106,10 +91,10 @@ module _ (p : ℕ) (positive : 1 ≤ p) (d t : ℕ) where
       go (yes now) = after-yes (next-after p d t) (t + 1) p now ∙ hit-goes-on now
       go (no later) = after-no (next-after p d t) (t + 1) p later ∙ missed-stays later
 
--- the hits among the first n times
-unfoldable pub hits-before : List ℕ → ℕ → ℕ → ℕ
-hits-before times t zero = 0
-hits-before times t (suc n) = hits-before times t n + hits (getD times n 0) t
+pub hits-before-few : (times : List ℕ) (t n : ℕ) → hits-before times t n ≤ n
+unfolding hits-before
+hits-before-few times t zero = omega arith
+hits-before-few times t (suc n) = omega (arith, hits-before-few times t n, hits-few (getD times n 0) t)
 
 -- the first n streams count so many more at t + 1
 count-step : (first : Stream → ℕ) (rows : Rows) (times : List ℕ) (t n : ℕ) → n ≤ length rows → ((k : ℕ) → k < n → 1 ≤ row-at rows k .period)
@@ -123,69 +108,73 @@ count-step first rows times t (suc n) within periods walk =
     (let before = count-step first rows times t n (omega arith) (λ k low. periods k (omega arith)) (λ k low. walk k (omega arith)) in
     omega (arith, before, packets-step (s .period) (periods n (omega arith)) (first s) t))
 
--- a walk whose first i streams have gone on to t
-pub record GoneOn (rows : Rows) (count t : ℕ) (times₀ : List ℕ) (sum₀ : ℕ) (times : List ℕ) (sum i : ℕ) : Type 0 where
-  pub within : i ≤ count
-  pub size : length times ≡ 64
-  pub gone-on : (k : ℕ) → k < i → getD times k 0 ≡ after-hit (getD times₀ k 0) t (row-at rows k .period)
+-- times of which the first i have gone on to t
+pub record GoneOn (periods : List ℕ) (n t : ℕ) (times₀ times : List ℕ) (sum i : ℕ) : Type 0 where
+  pub within : i ≤ n
+  pub size : length times ≡ length times₀
+  pub gone-on : (k : ℕ) → k < i → getD times k 0 ≡ after-hit (getD times₀ k 0) t (getD periods k 0)
   pub left : (k : ℕ) → i ≤ k → getD times k 0 ≡ getD times₀ k 0
-  pub counted : sum ≡ sum₀ + hits-before times₀ t i
-  pub few : sum ≤ sum₀ + i
+  pub counted : sum ≡ hits-before times₀ t i
 
-pub none-gone-on : (rows : Rows) (count t : ℕ) (times : List ℕ) (sum : ℕ) → length times ≡ 64 → GoneOn rows count t times sum times sum 0
+pub none-gone-on : (periods : List ℕ) (n t : ℕ) (times : List ℕ) → GoneOn periods n t times times 0 0
 unfolding hits-before
-none-gone-on rows count t times sum size = record {
-  within = omega arith;
-  size = size;
-  gone-on = below-none _;
-  left = λ k high. refl;
-  counted = omega arith;
-  few = omega arith;
-}
+none-gone-on periods n t times =
+    record { within = omega arith; size = refl; gone-on = below-none _; left = λ k high. refl; counted = refl }
 
-module _ {rows : Rows} {count t : ℕ} {times₀ : List ℕ} {sum₀ : ℕ} {times : List ℕ} {sum i : ℕ} (so-far : GoneOn rows count t times₀ sum₀ times sum i) where
-  pub one-more-gone-on : i < count → count ≤ 64 → (hit time : ℕ) → hit ≡ hits (getD times i 0) t
-      → time ≡ after-hit (getD times i 0) t (row-at rows i .period) → GoneOn rows count t times₀ sum₀ (set times i time) (sum + hit) (i + 1)
+module _ {periods : List ℕ} {n t : ℕ} {times₀ times : List ℕ} {sum i : ℕ} (so-far : GoneOn periods n t times₀ times sum i) where
+  pub one-more-gone-on : i < n → n ≤ length times₀ → (hit time : ℕ) → hit ≡ hits (getD times i 0) t
+      → time ≡ after-hit (getD times i 0) t (getD periods i 0) → GoneOn periods n t times₀ (set times i time) (sum + hit) (i + 1)
   unfolding hits-before
-  one-more-gone-on low most hit time is-hit is-time =
+  one-more-gone-on low room hit time is-hit is-time =
       let old : getD times i 0 ≡ getD times₀ i 0 = so-far .left i (omega arith) in
       record {
         within = omega arith;
         size = length-set times i time ∙ so-far .size;
-        gone-on = one-place-more (λ k. after-hit (getD times₀ k 0) t (row-at rows k .period)) times i time
-            (omega (arith, so-far .size)) (so-far .gone-on) (rw old at is-time);
+        gone-on = one-place-more (λ k. after-hit (getD times₀ k 0) t (getD periods k 0)) times i time
+            (omega (arith, so-far .size, room)) (so-far .gone-on) (rw old at is-time);
         left = λ k high. getD-set-other times i k time 0 (λ same. lt-irrefl k (omega (arith, same, high))) ∙ so-far .left k (omega arith);
         counted = rw (add-one i) (omega (arith, so-far .counted, is-hit, ap (λ (x : ℕ). hits x t) old));
-        few = omega (arith, so-far .few, is-hit, hits-few (getD times i 0) t);
       }
 
--- when all have, the walk is at t
-pub all-gone-on : (table : Table) (walk : Walk) (t : ℕ) → CanAdvance table walk t → length (table .streams) ≡ 64
-    → (times : List ℕ) (sum i : ℕ) → table .count ≤ i
-    → GoneOn (table .streams) (table .count) t (walk .times) (walk .sum) times sum i → IsAdvance table walk t (record { times = times; sum = sum })
-all-gone-on table walk t can size times sum i all-of-them so-far = record {
-  step = λ first before on is-walk. subst (λ (u : ℕ). IsWalk first table u (record { times = times; sum = sum })) on
-      (go first before is-walk (subst (λ (u : ℕ). All u) (sym on) all));
-  few = omega (arith, all .few, can .count);
-}
-  where
-    All : ℕ → Type 0
-    All u = GoneOn (table .streams) (table .count) u (walk .times) (walk .sum) times sum (table .count)
+  pub all-gone-on : n ≤ i → IsAdvance periods times₀ n t times sum
+  all-gone-on all-of-them =
+      let e : i ≡ n = omega (arith, so-far .within) in
+      record {
+        moved = λ k low. so-far .gone-on k (omega arith);
+        counted = so-far .counted ∙ ap (hits-before times₀ t) e;
+        few = omega (arith, so-far .counted, hits-before-few times₀ t i);
+        size = so-far .size;
+      }
 
-    all : All t
-    all = let e : i ≡ table .count = omega (arith, so-far .within) in
-        subst (λ (n : ℕ). GoneOn (table .streams) (table .count) t (walk .times) (walk .sum) times sum n) e so-far
+module _ {table : Table} {periods : List ℕ} (has : HasPeriods table periods) where
+  pub can-advance : {first : Stream → ℕ} {u sum t : ℕ} {times : List ℕ} → IsWalk first table u times sum → t ≤ 2_000_000_000
+      → CanAdvance periods times (table .count) t
+  can-advance walk near = record { count = has .count; room = walk .room; short = λ k low. omega (arith, has .column k low, has .range k low); near = near }
 
-    periods : (k : ℕ) → k < table .count → 1 ≤ stream-at table k .period
-    periods k low = can .periods k low .0
+  -- before every first due time nothing is counted
+  pub walk-begins : (first : Stream → ℕ) (t : ℕ) → ((k : ℕ) → k < table .count → t < first (stream-at table k))
+      → (times : List ℕ) → length times ≡ 64 → ((k : ℕ) → k < table .count → getD times k 0 ≡ first (stream-at table k)) → IsWalk first table t times 0
+  unfolding next-after
+  walk-begins first t late times size begin = record {
+    times = λ k low.
+        let none = packets-none (stream-at table k .period) (has .range k low .0) (first (stream-at table k)) t (late k low) in
+        rw none (omega (arith, begin k low));
+    counted = sym (count-by-none first (streams-of table) t
+        (all-rows (λ s. (1 ≤ s .period) × (t < first s)) (λ s. ×-prop le-prop le-prop) (table .streams) (table .count) (λ k low. (has .range k low .0, late k low))));
+    room = omega (arith, has .count, size);
+  }
 
-    go : (first : Stream → ℕ) (before : ℕ) → IsWalk first table before walk → All (before + 1)
-        → IsWalk first table (before + 1) (record { times = times; sum = sum })
-    go first before is-walk on =
-        let more = count-step first (table .streams) (walk .times) before (table .count) (omega (arith, size, can .count)) periods (is-walk .times) in
-        record {
-          times = λ k low. let s = stream-at table k in
-              let old = ap (λ (x : ℕ). after-hit x (before + 1) (s .period)) (is-walk .times k low) in
-              on .gone-on k low ∙ (old ∙ next-step (s .period) (periods k low) (first s) before);
-          counted = omega (arith, on .counted, is-walk .counted, more);
-        }
+  -- a walk whose times go one length further counts those that they had there
+  pub walk-goes-on : {first : Stream → ℕ} {t sum r : ℕ} {times later : List ℕ} → IsWalk first table t times sum
+      → IsAdvance periods times (table .count) (t + 1) later r → IsWalk first table (t + 1) later (sum + r)
+  walk-goes-on {first} {t} {sum} {r} {times} {later} walk on = record {
+    times = λ k low. let s = stream-at table k in
+        on .moved k low ∙ rw (walk .times k low, has .column k low) (next-step (s .period) (has .range k low .0) (first s) t);
+    counted = omega (
+      arith,
+      on .counted,
+      walk .counted,
+      count-step first (table .streams) times t (table .count) (has .within) (λ k low. has .range k low .0) (walk .times),
+    );
+    room = omega (arith, walk .room, on .size);
+  }

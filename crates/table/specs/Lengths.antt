@@ -2,17 +2,17 @@
 use mathlib.Core.Path.{_≡_}
 use mathlib.Core.Logic.{ite}
 use mathlib.Core.List.{List, List·Mem}
-use Prim.Native.Nat.{ℕ, _+_, _*_, _≤_, _<_}
+use Prim.Native.Nat.{ℕ, zero, suc, _+_, _*_, _≤_, _<_}
 use native.Mathlib.Decide.{ℕ-discrete}
-use lib.ListN.{getD}
+use lib.ListN.{getD, length}
 use Rattle.rules.specs.Streams.{Stream, WellFormed}
 use Rattle.rules.specs.Demand.{packets-by, DemandRule, StartRule, IsLazyStart}
 use Rattle.rules.specs.CountBy.{count-by}
 use Rattle.rules.specs.Busy.{IsBusy}
-use Rattle.table.specs.Table.{streams-of, stream-at}
+use Rattle.table.specs.Table.{streams-of, stream-at, IsColumn}
 use Rattle.table.specs.Range.{StreamInRange, AreNear}
 use Rattle.table.specs.declared.Table.{Table}
-use Rattle.table.specs.declared.lengths.Walk.{Walk}
+use Rattle.table.specs.declared.Column.the-variants.{Period}
 
 -- The busy length of the table, or 0 where the demand rule fails.
 pub record IsBusyLength (b : ℕ) (ss : List Stream) (r : ℕ) : Type 0 where
@@ -49,27 +49,42 @@ pub record CanFindStart (b x latest T : ℕ) (table : Table) : Type 0 where
 unfoldable pub next-after : ℕ → ℕ → ℕ → ℕ
 next-after period first t = first + packets-by period first t * period
 
--- A walk at length t: for each stream the first due time after t, and how many due times there are by t. `first` is a stream's first one.
-pub record IsWalk (first : Stream → ℕ) (table : Table) (t : ℕ) (w : Walk) : Type 0 where
-  pub times : (k : ℕ) → k < table .count → getD (w .times) k 0 ≡ next-after (stream-at table k .period) (first (stream-at table k)) t
-  pub counted : w .sum ≡ count-by first (streams-of table) t
+-- A walk at length t: in each stream's place the first due time after t, and how many due times there are by t. `first` is a stream's first one.
+pub record IsWalk (first : Stream → ℕ) (table : Table) (t : ℕ) (next : List ℕ) (sum : ℕ) : Type 0 where
+  pub times : (k : ℕ) → k < table .count → getD next k 0 ≡ next-after (stream-at table k .period) (first (stream-at table k)) t
+  pub counted : sum ≡ count-by first (streams-of table) t
+  pub room : table .count ≤ length next
+
+-- A table with its periods in range, and the column of them.
+pub record HasPeriods (table : Table) (periods : List ℕ) : Type 0 where
+  pub count : table .count ≤ 64
+  pub within : table .count ≤ length (table .streams)
+  pub column : IsColumn Period table periods
+  pub range : (k : ℕ) → k < table .count → (1 ≤ stream-at table k .period) × (stream-at table k .period ≤ 240)
 
 -- How many due times of one stream, the next of them at `time`, the length t adds ..
 unfoldable pub hits : ℕ → ℕ → ℕ
 hits time t = ite (ℕ-discrete time t) 1 0
 
--- .. and which due time is then the next.
+-- .. which due time is then the next ..
 unfoldable pub after-hit : ℕ → ℕ → ℕ → ℕ
 after-hit time t period = ite (ℕ-discrete time t) (t + period) time
 
--- What going one length further relies on.
-pub record CanAdvance (table : Table) (w : Walk) (t : ℕ) : Type 0 where
-  pub count : table .count ≤ 64
-  pub periods : (k : ℕ) → k < table .count → (1 ≤ stream-at table k .period) × (stream-at table k .period ≤ 240)
-  pub near : t ≤ 2_000_000_000
-  pub room : w .sum ≤ 2_000_000_000
+-- .. and how many the length t adds for the first n of the times.
+unfoldable pub hits-before : List ℕ → ℕ → ℕ → ℕ
+hits-before times t zero = 0
+hits-before times t (suc n) = hits-before times t n + hits (getD times n 0) t
 
--- A walk one length further, at t, whatever the first due times were.
-pub record IsAdvance (table : Table) (w : Walk) (t : ℕ) (r : Walk) : Type 0 where
-  pub step : (first : Stream → ℕ) (before : ℕ) → before + 1 ≡ t → IsWalk first table before w → IsWalk first table t r
-  pub few : r .sum ≤ w .sum + 64
+-- What going one length further relies on.
+pub record CanAdvance (periods times : List ℕ) (n t : ℕ) : Type 0 where
+  pub count : n ≤ 64
+  pub room : n ≤ length times
+  pub short : (k : ℕ) → k < n → getD periods k 0 ≤ 240
+  pub near : t ≤ 2_000_000_000
+
+-- One length further, to t: the first n times move on, and r of them were at t.
+pub record IsAdvance (periods times : List ℕ) (n t : ℕ) (later : List ℕ) (r : ℕ) : Type 0 where
+  pub moved : (k : ℕ) → k < n → getD later k 0 ≡ after-hit (getD times k 0) t (getD periods k 0)
+  pub counted : r ≡ hits-before times t n
+  pub few : r ≤ n
+  pub size : length later ≡ length times

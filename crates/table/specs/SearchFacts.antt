@@ -1,25 +1,25 @@
 -- The search for the next start over a table: what it may rely on, and what each length that it looks at adds.
-use mathlib.Core.Path.{_≡_, refl, ap, _∙_}
+use mathlib.Core.Path.{_≡_, refl, sym, subst, ap, _∙_}
 use mathlib.Core.List.{List}
 use Prim.Native.Nat.{ℕ, _+_, _-_, _*_, _≤_, _<_, min}
 use native.Mathlib.Bridge.{le-prop}
-use native.Mathlib.Nat.{le-trans, mul-le-mul-right}
+use native.Mathlib.Nat.{le-trans, lt-irrefl, mul-le-mul-left, mul-le-mul-right}
+use native.Mathlib.Decide.{decLt}
 use native.Mathlib.Omega.{arith}
 use lib.ListN.{length}
 use Rattle.rules.specs.Streams.{Stream, due}
 use Rattle.rules.specs.Demand.{future, ceil}
-use Rattle.rules.specs.Division.{ceil-least}
+use Rattle.rules.specs.Division.{ceil-least, ceil-enough}
 use Rattle.rules.specs.CountBy.{count-by-future}
 use Rattle.rules.specs.Sums.{AllWellFormed, future-counts, future-mono}
 use Rattle.table.specs.Table.{streams-of, stream-at, CanRead, IsColumn}
-use Rattle.table.specs.Lengths.{CanFindStart, IsNextStart, IsWalk, CanAdvance, IsAdvance}
+use Rattle.table.specs.Lengths.{CanFindStart, IsNextStart, IsWalk, IsAdvance}
 use Rattle.table.specs.TableFacts.{stream-at-mem, all-streams}
-use Rattle.table.specs.LengthFacts.{walk-begins}
+use Rattle.table.specs.LengthFacts.{walk-begins, walk-goes-on}
 use Rattle.table.specs.Start.{IsLeastOf, CanLookFrom}
 use Rattle.table.specs.StartFacts.{Looked, looked-more, looked-all, found-none, nothing-due}
 use Rattle.table.specs.declared.Table.{Table}
-use Rattle.table.specs.declared.Column.the-variants.{Due}
-use Rattle.table.specs.declared.lengths.Walk.{Walk}
+use Rattle.table.specs.declared.Column.the-variants.{Period, Due}
 
 no-streams : (table : Table) → table .count ≡ 0 → (t : ℕ) → future (streams-of table) t ≡ 0
 unfolding future
@@ -42,19 +42,19 @@ module _ {b x cap T : ℕ} {table : Table} (can : CanFindStart b x cap T table) 
     pub can-read-due : CanRead Due table
     can-read-due = record { count = can .count; small = λ k below. omega (arith, due-near k below, can .now) }
 
-    periods : (k : ℕ) → k < table .count → (1 ≤ stream-at table k .period) × (stream-at table k .period ≤ 240)
-    periods k below = let formed = can .formed (stream-at table k) (stream-at-mem table within k below) in (omega arith, formed .1)
+    period-range : (k : ℕ) → k < table .count → (1 ≤ stream-at table k .period) × (stream-at table k .period ≤ 240)
+    period-range k below = let formed = can .formed (stream-at table k) (stream-at-mem table within k below) in (omega arith, formed .1)
 
-    pub can-advance : {t : ℕ} {w : Walk} → t ≤ 2_000_000_000 → w .sum ≤ 2_000_000_000 → CanAdvance table w t
-    can-advance near room = record { count = can .count; periods = periods; near = near; room = room }
+    pub can-read-period : CanRead Period table
+    can-read-period = record { count = can .count; small = λ k below. omega (arith, period-range k below) }
 
     -- the least due time of the table is where to begin
-    pub can-look : {dues : List ℕ} {first : ℕ} → IsColumn Due table dues → IsLeastOf dues (table .count) first
-        → CanLookFrom b x cap first T table dues
-    can-look {dues} {first} column least =
+    pub can-look : {periods dues : List ℕ} {first : ℕ} → IsColumn Period table periods → IsColumn Due table dues → IsLeastOf dues (table .count) first
+        → CanLookFrom b x cap first T table periods dues
+    can-look {periods} {dues} {first} period-column column least =
         record {
           can = can;
-          within = within;
+          has = record { count = can .count; within = within; column = period-column; range = period-range };
           column = column;
           before = all-streams (λ (s : Stream). first ≤ due s) (λ s. le-prop) table within (λ k below. omega (arith, least .at-most k below, column k below));
           counts = future-counts (streams-of table) well-formed (stream-at table place) (stream-at-mem table within place (least .reached .1)) first (omega (arith, here));
@@ -68,28 +68,37 @@ module _ {b x cap T : ℕ} {table : Table} (can : CanFindStart b x cap T table) 
         here : first ≡ due (stream-at table place)
         here = least .reached .2 ∙ column place (least .reached .1)
 
+-- rounds that hold fewer packets than there are do not suffice
+pub too-few-rounds : {b m n : ℕ} → 1 ≤ b → b * n < m → n < ceil m b
+too-few-rounds {b} {m} {n} positive short = go (decLt n (ceil m b))
+  where
+    go : Dec (n < ceil m b) → n < ceil m b
+    go (yes more) = more
+    go (no enough) = let most : b * ceil m b ≤ b * n = mul-le-mul-left b (omega arith) in
+        absurd (lt-irrefl m (omega (arith, short, most, ceil-enough m b positive)))
+
 -- no packet takes more than a round
-pub few-rounds : {b m n : ℕ} → 1 ≤ b → n ≡ ceil m b → n ≤ m
-few-rounds {b} {m} {n} positive parts =
-    let enough : 1 * m ≤ b * m = mul-le-mul-right m positive in
-    omega (arith, parts, ceil-least m b m positive (omega (arith, enough)))
+pub few-rounds : (b m : ℕ) → 1 ≤ b → ceil m b ≤ m
+few-rounds b m positive = let enough : 1 * m ≤ b * m = mul-le-mul-right m positive in ceil-least m b m positive (omega (arith, enough))
 
--- where a walk stands when it has gone on to t
-pub walked : {table : Table} {w r : Walk} {t : ℕ} → IsAdvance table w t r → (before : ℕ) × (before + 1 ≡ t) × IsWalk due table before w → IsWalk due table t r
-walked advanced (before, next, walk) = advanced .step due before next walk
-
-module _ {b x cap first T : ℕ} {table : Table} {dues : List ℕ} (can : CanLookFrom b x cap first T table dues) where
+module _ {b x cap first T : ℕ} {table : Table} {periods dues : List ℕ} (can : CanLookFrom b x cap first T table periods dues) where
   -- before the first due time nothing has been counted
-  pub begins : IsWalk due table (first - 1) (record { times = dues; sum = 0 })
-  begins =
-      walk-begins due table (can .can .count) (first - 1)
-      (λ k below. omega (arith, can .before (stream-at table k) (stream-at-mem table (can .within) k below), can .after)) dues (can .column)
-      (λ k below. periods (can .can) (can .within) k below .0)
+  pub begins : length dues ≡ 64 → IsWalk due table (first - 1) dues 0
+  begins size =
+      walk-begins (can .has) due (first - 1)
+      (λ k below. omega (arith, can .before (stream-at table k) (stream-at-mem table (can .has .within) k below), can .after)) dues size (can .column)
+
+  -- where a walk stands when it has gone on to t
+  pub walked : {times later : List ℕ} {sum r t : ℕ} → (before : ℕ) × (before + 1 ≡ t) × IsWalk due table before times sum
+      → IsAdvance periods times (table .count) t later r → IsWalk due table t later (sum + r)
+  walked {times} {later} {sum} {r} (before, next, walk) on =
+      subst (λ (u : ℕ). IsWalk due table u later (sum + r)) next
+      (walk-goes-on (can .has) walk (subst (λ (u : ℕ). IsAdvance periods times (table .count) u later r) (sym next) on))
 
   some-due : (t : ℕ) → first ≤ t → 0 < future (streams-of table) t
   some-due t on = le-trans (can .counts) (future-mono (streams-of table) (well-formed (can .can)) first t on)
 
-  module _ {t n : ℕ} {w : Walk} (walk : IsWalk due table t w) (parts : n ≡ ceil (w .sum) b) (on : first ≤ t) where
+  module _ {t n sum : ℕ} {times : List ℕ} (walk : IsWalk due table t times sum) (parts : n ≡ ceil sum b) (on : first ≤ t) where
     needed : n ≡ ceil (future (streams-of table) t) b
     needed = parts ∙ ap (λ (m : ℕ). ceil m b) (walk .counted ∙ count-by-future (streams-of table) t)
 

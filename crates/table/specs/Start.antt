@@ -2,11 +2,11 @@
 use mathlib.Core.Path.{_≡_}
 use mathlib.Core.List.{List, List·Mem}
 use Prim.Native.Nat.{ℕ, _+_, _≤_, _<_}
-use lib.ListN.{getD, length}
+use lib.ListN.{getD}
 use Rattle.rules.specs.Streams.{Stream, due}
-use Rattle.rules.specs.Demand.{future}
+use Rattle.rules.specs.Demand.{future, ceil}
 use Rattle.table.specs.Table.{streams-of, IsColumn}
-use Rattle.table.specs.Lengths.{CanFindStart}
+use Rattle.table.specs.Lengths.{CanFindStart, HasPeriods}
 use Rattle.table.specs.declared.Table.{Table}
 use Rattle.table.specs.declared.Column.the-variants.{Due}
 
@@ -15,10 +15,16 @@ pub record IsLeastOf (values : List ℕ) (n r : ℕ) : Type 0 where
   pub at-most : (k : ℕ) → k < n → r ≤ getD values k 0
   pub reached : (k : ℕ) × (k < n) × (r ≡ getD values k 0)
 
+-- What counting rounds up from `needed` relies on: that many are not too many.
+pub record CanCountRounds (needed packets b : ℕ) : Type 0 where
+  pub slots : (1 ≤ b) × (b ≤ 64)
+  pub few : packets ≤ 1_000_000
+  pub low : needed ≤ ceil packets b
+
 -- What the search relies on that knows the due times: `first` is the least of them.
-pub record CanLookFrom (b x latest first T : ℕ) (table : Table) (dues : List ℕ) : Type 0 where
+pub record CanLookFrom (b x latest first T : ℕ) (table : Table) (periods dues : List ℕ) : Type 0 where
   pub can : CanFindStart b x latest T table
-  pub within : table .count ≤ length (table .streams)
+  pub has : HasPeriods table periods
   pub column : IsColumn Due table dues
   pub before : (s : Stream) → List·Mem s (streams-of table) → first ≤ due s
   pub counts : 0 < future (streams-of table) first

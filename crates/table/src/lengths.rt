@@ -4,15 +4,8 @@ ghost use Prim.Native.Nat.{_≤_};
 ghost use Rattle.table.specs.Table.{streams-of};
 ghost use Rattle.table.specs.Lengths.{CanAdvance, IsAdvance, CanTestDemand, IsBusyLength, hits, after-hit};
 use super::Column;
-use super::Stream;
 use super::Table;
 use super::column_in_range;
-
-// For each stream the first due time not yet counted, and how many have been counted.
-pub struct Walk {
-    pub times: [u32; 64],
-    pub sum: u32,
-}
 
 // How many due times of one stream t adds.
 fn hit(time: u32, t: u32) -> u32
@@ -35,23 +28,20 @@ fn time_after(time: u32, t: u32, period: u32) -> u32
     time
 }
 
-// One length further, to t.
-pub fn advance(table: Table, walk: Walk, t: u32) -> Walk
-    requires { ⌜ CanAdvance table walk t ⌝ }
-    ensures { λ r. ⌜ IsAdvance table walk t r ⌝ }
+// One length further, to t: how many of the first `count` due times fall at t; those move on by their periods.
+pub fn advance(periods: &[u32; 64], times: &mut [u32; 64], count: usize, t: u32) -> u32
+    requires { ⌜ CanAdvance (now periods) (now times) count t ⌝ }
+    ensures { λ r. ⌜ IsAdvance (now (periods .entry)) (now (times .entry)) count t (now (times .exit)) r ⌝ }
 {
-    let streams = table.streams;
-    let mut times = walk.times;
-    let mut sum = walk.sum;
+    let mut sum: u32 = 0;
     let mut i: usize = 0;
-    while i < table.count {
-        let stream = streams[i];
+    while i < count {
         let time = times[i];
         sum += hit(time, t);
-        times[i] = time_after(time, t, stream.period);
+        times[i] = time_after(time, t, periods[i]);
         i += 1;
     }
-    Walk { times, sum }
+    sum
 }
 
 // The busy length, or 0 if the demand rule fails: it is tested at each length up to the busy one.
@@ -59,23 +49,20 @@ pub fn busy_length_in_range(table: Table, slots: u32, frame: u32) -> u32
     requires { ⌜ CanTestDemand slots frame table ⌝ }
     ensures { λ r. ⌜ IsBusyLength slots (streams-of table) r ⌝ }
 {
-    let mut due = Walk {
-        times: column_in_range(table, Column::Deadline),
-        sum: 0,
-    };
-    let mut all = Walk {
-        times: [1u32; 64],
-        sum: 0,
-    };
+    let periods = column_in_range(table, Column::Period);
+    let mut dues = column_in_range(table, Column::Deadline);
+    let mut releases = [1u32; 64];
+    let mut due: u32 = 0;
+    let mut all: u32 = 0;
     let mut t: u32 = 0;
     while t < frame {
         t += 1;
-        due = advance(table, due, t);
-        if slots * t < due.sum {
+        due += advance(&periods, &mut dues, table.count, t);
+        if slots * t < due {
             return 0;
         }
-        all = advance(table, all, t);
-        if all.sum <= slots * t {
+        all += advance(&periods, &mut releases, table.count, t);
+        if all <= slots * t {
             return t;
         }
     }

@@ -37,6 +37,7 @@ pub struct Table {
 // What a column of numbers is made of.
 pub enum Column {
     Id,
+    Period,
     Deadline,
     Due,
 }
@@ -48,6 +49,7 @@ fn value_in_range(stream: Stream, column: Column) -> u32
 {
     match column {
         Column::Id => stream.id,
+        Column::Period => stream.period,
         Column::Deadline => stream.deadline,
         Column::Due => stream.release + stream.deadline,
     }

@@ -1,16 +1,14 @@
 // The start rule and the lazy rule on a table: the lengths looked at are a busy length of them from the first due time on.
 use super::Column;
-use super::Stream;
 use super::Table;
 use super::column_in_range;
-use super::lengths::Walk;
 use super::lengths::advance;
 ghost use mathlib.Core.Path.{_≡_};
 ghost use Prim.Native.Nat.{_≤_, min};
 ghost use Rattle.rules.specs.Demand.{ceil};
 ghost use Rattle.table.specs.Table.{streams-of};
 ghost use Rattle.table.specs.Lengths.{CanFindStart, IsNextStart};
-ghost use Rattle.table.specs.Start.{IsLeastOf, CanLookFrom};
+ghost use Rattle.table.specs.Start.{IsLeastOf, CanCountRounds, CanLookFrom};
 
 fn lesser(x: u32, y: u32) -> u32
     ensures { λ r. ⌜ r ≡ min y x ⌝ }
@@ -35,17 +33,23 @@ fn least_of(values: [u32; 64], count: usize) -> u32
     least
 }
 
-// How many rounds of that many slots the packets take.
-fn rounds_for(packets: u32, slots: u32) -> u32
-    requires { ⌜ (packets ≤ 2_000_000_000) × ((1 ≤ slots) × (slots ≤ 64)) ⌝ }
+// How many rounds of that many slots the packets take, where `needed` are not too many: counted up, since a division for each length
+// costs more.
+fn rounds_from(needed: u32, packets: u32, slots: u32) -> u32
+    requires { ⌜ CanCountRounds needed packets slots ⌝ }
     ensures { λ r. ⌜ r ≡ ceil packets slots ⌝ }
 {
-    (packets + (slots - 1)) / slots
+    let mut n = needed;
+    while slots * n < packets {
+        n += 1;
+    }
+    n
 }
 
 // What next_start_in_range answers, where `first` is the first due time.
 fn start_from(
     table: Table,
+    periods: [u32; 64],
     dues: [u32; 64],
     slots: u32,
     now: u32,
@@ -53,19 +57,18 @@ fn start_from(
     first: u32,
     busy: u32,
 ) -> u32
-    requires { ⌜ CanLookFrom slots now cap first busy table dues ⌝ }
+    requires { ⌜ CanLookFrom slots now cap first busy table periods dues ⌝ }
     ensures { λ r. ⌜ IsNextStart slots now cap (streams-of table) r ⌝ }
 {
     let end = first + busy;
-    let mut walk = Walk {
-        times: dues,
-        sum: 0,
-    };
+    let mut times = dues;
+    let mut sum: u32 = 0;
+    let mut needed: u32 = 0;
     let mut start = cap;
     let mut t = first;
     while t < end {
-        walk = advance(table, walk, t);
-        let needed = rounds_for(walk.sum, slots);
+        sum += advance(&periods, &mut times, table.count, t);
+        needed = rounds_from(needed, sum, slots);
         if t < now + needed {
             return 0;
         }
@@ -83,7 +86,8 @@ pub fn next_start_in_range(table: Table, slots: u32, now: u32, cap: u32, busy: u
     if table.count == 0 {
         return cap;
     }
+    let periods = column_in_range(table, Column::Period);
     let dues = column_in_range(table, Column::Due);
     let first = least_of(dues, table.count);
-    start_from(table, dues, slots, now, cap, first, busy)
+    start_from(table, periods, dues, slots, now, cap, first, busy)
 }

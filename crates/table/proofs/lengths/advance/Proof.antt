@@ -1,66 +1,59 @@
--- `table::lengths::advance` meets its contract: the streams before place i have gone on to t.
+-- `table::lengths::advance` meets its contract: the times before place i have gone on to t.
 use Prim.Native.Nat.{_-_}
 use native.Mathlib.Omega.{arith}
 use lib.ListN.{getD}
-use Rattle.table.specs.LengthFacts.{GoneOn, none-gone-on, one-more-gone-on, all-gone-on, hits-few}
-use Rattle.table.proofs.Shape.{table-shape, walk-shape}
+use Rattle.table.specs.LengthFacts.{GoneOn, none-gone-on, one-more-gone-on, all-gone-on, hits-few, hits-before-few}
 use Rattle.table.proofs.lengths.advance.Statement.{statement}
 use Rattle.table.proofs.lengths.advance.Tie as tie
 
 abbrev Inv-loop : tie.InvT-loop
-Inv-loop table t streams times₀ sum₀ i₀ times sum i = GoneOn streams (table .count) t times₀ sum₀ times sum i
+Inv-loop periods times₀ count t sum₀ i₀ times sum i = GoneOn periods count t times₀ times sum i
 
 abbrev μ-loop : tie.MeasureT-loop
-μ-loop table t streams times₀ sum₀ i₀ times sum i = table .count - i
+μ-loop periods times₀ count t sum₀ i₀ times sum i = count - i
 
 loop-holds : tie.Need-loop-holds Inv-loop μ-loop
-loop-holds c = none-gone-on _ _ _ _ _ (walk-shape (c .before .before .args .walk) _ (c .before .before .good .1 .0))
-
-mul-stream : tie.Need-mul-stream Inv-loop μ-loop
-mul-stream c = omega (arith, c .before .before .before .before .before .pre .count)
-
-array-copy-out-stream : tie.Need-array-copy-out-stream Inv-loop μ-loop
-array-copy-out-stream c = omega (arith, c .before .before .before .before .before .pre .count)
+loop-holds c = none-gone-on _ _ _ _
 
 mul-time : tie.Need-mul-time Inv-loop μ-loop
-mul-time c = omega (arith, c .before .before .before .before .before .before .pre .count)
+mul-time c = omega (arith, c .before .before .pre .count)
 
-array-read-time : tie.Need-array-read-time Inv-loop μ-loop
-array-read-time c = omega (arith, c .before .before .before .before .before .before .pre .count)
+element-copy-out-time : tie.Need-element-copy-out-time Inv-loop μ-loop
+element-copy-out-time c = omega (arith, c .before .before .pre .count)
 
 hit-requires : tie.Need-hit-requires Inv-loop μ-loop
 hit-requires c κs = tt
 
 add-sum : tie.Need-add-sum Inv-loop μ-loop
 add-sum c =
-    let start = c .before .before .before .before .before .before .before in
-    let loop = c .before .before .before .before .loop in
-    omega (arith, c .hit .ensures, hits-few (getD (loop .times) (loop .i) 0) (start .args .t), loop .inv .few, start .pre .count, start .pre .room)
+    omega (arith, c .hit .ensures, hits-few (getD (c .before .before .before .loop .times) (c .before .before .before .loop .i) 0) (c .before .before .before .before .args .t), c .before .before .before .loop .inv .counted, hits-before-few (c .before .before .before .before .args .times .now) (c .before .before .before .before .args .t) (c .before .before .before .loop .i), c .before .before .before .before .pre .count)
+
+mul-time-after : tie.Need-mul-time-after Inv-loop μ-loop
+mul-time-after c = omega (arith, c .before .before .before .before .pre .count)
+
+element-copy-out-time-after : tie.Need-element-copy-out-time-after Inv-loop μ-loop
+element-copy-out-time-after c = omega (arith, c .before .before .before .before .pre .count)
 
 time-after-requires : tie.Need-time-after-requires Inv-loop μ-loop
-time-after-requires c κs = (c .before .before .before .before .before .before .before .pre .near, c .before .before .before .before .before .before .before .pre .periods _ (c .before .before .if1 .taken) .1)
+time-after-requires c κs = (c .before .before .before .before .before .pre .near, c .before .before .before .before .before .pre .short _ (c .before .before .before .loop-test .taken))
 
 mul-times : tie.Need-mul-times Inv-loop μ-loop
-mul-times c = omega (arith, c .before .before .before .before .before .before .before .before .pre .count)
+mul-times c = omega (arith, c .before .before .before .before .before .before .pre .count)
 
-array-write-times : tie.Need-array-write-times Inv-loop μ-loop
-array-write-times c = omega (arith, c .before .before .before .before .before .before .before .before .pre .count)
+element-write-times : tie.Need-element-write-times Inv-loop μ-loop
+element-write-times c = omega (arith, c .before .before .before .before .before .before .pre .count)
 
 add-i : tie.Need-add-i Inv-loop μ-loop
-add-i c = omega (arith, c .before .before .before .before .before .before .before .before .pre .count)
+add-i c = omega (arith, c .before .before .before .before .before .before .pre .count)
 
 loop-less : tie.Need-loop-less Inv-loop μ-loop
 loop-less c = omega arith
 
 loop-again : tie.Need-loop-again Inv-loop μ-loop
-loop-again c = one-more-gone-on (c .before .before .before .before .before .loop .inv) (c .before .before .before .if1 .taken) (c .before .before .before .before .before .before .before .before .pre .count) (c .before .hit .result) (c .time-after .result) (c .before .hit .ensures) (c .time-after .ensures)
+loop-again c = one-more-gone-on (c .before .before .before .before .before .loop .inv) (c .before .before .before .before .loop-test .taken) (c .before .before .before .before .before .before .pre .room) (c .before .before .hit .result) (c .time-after .result) (c .before .before .hit .ensures) (c .time-after .ensures)
 
 returns : tie.Need-returns Inv-loop μ-loop
-returns c =
-    let start = c .before .before .before .before .before in
-    let loop = c .before .before .loop in
-    all-gone-on (start .args .table) (start .args .walk) (start .args .t) (start .pre) (table-shape (start .args .table) _ (start .good .0))
-    (loop .times) (loop .sum) (loop .i) (c .if1 .left) (loop .inv)
+returns c = all-gone-on (c .before .loop .inv) (c .loop-test .left)
 
 pub advance-spec : {M : Type 1} → statement M
 advance-spec =
@@ -69,15 +62,15 @@ advance-spec =
     Inv-loop
     μ-loop
     loop-holds
-    mul-stream
-    array-copy-out-stream
     mul-time
-    array-read-time
+    element-copy-out-time
     hit-requires
     add-sum
+    mul-time-after
+    element-copy-out-time-after
     time-after-requires
     mul-times
-    array-write-times
+    element-write-times
     add-i
     loop-less
     loop-again

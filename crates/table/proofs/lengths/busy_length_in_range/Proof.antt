@@ -1,58 +1,67 @@
 -- `table::lengths::busy_length_in_range` meets its contract: the two walks are at t, and the demand rule holds up to t.
 use Prim.Native.Nat.{_-_}
 use native.Mathlib.Omega.{arith}
-use Rattle.table.specs.BusyFacts.{TestedTo, slots-fit, rule-fails, one-length-more, busy-found, frame-reached, can-read-deadlines, can-go-on, test-begins}
+use mir.Syntax.{w32}
+use borrow.Kind.Array.{good-length, eInt}
+use Rattle.table.specs.BusyFacts.{TestedTo, slots-fit, rule-fails, one-length-more, busy-found, frame-reached, can-read-periods, can-read-deadlines, test-begins}
+use Rattle.table.specs.LengthFacts.{can-advance}
 use Rattle.table.proofs.Shape.{table-shape}
 use Rattle.table.proofs.lengths.busy_length_in_range.Statement.{statement}
 use Rattle.table.proofs.lengths.busy_length_in_range.Tie as tie
 
 abbrev Inv-loop : tie.InvT-loop
-Inv-loop table slots frame due₀ all₀ t₀ due all t = TestedTo slots frame table due all t
+Inv-loop table slots frame periods dues₀ releases₀ due₀ all₀ t₀ dues releases due all t = TestedTo slots frame table periods dues due releases all t
 
 abbrev μ-loop : tie.MeasureT-loop
-μ-loop table slots frame due₀ all₀ t₀ due all t = frame - t
+μ-loop table slots frame periods dues₀ releases₀ due₀ all₀ t₀ dues releases due all t = frame - t
 
 column-in-range-requires : tie.Need-column-in-range-requires Inv-loop μ-loop
-column-in-range-requires c κs = can-read-deadlines _ _ _ (c .pre) (table-shape (c .args .table) _ (c .good .0))
+column-in-range-requires c κs = can-read-periods _ _ _ (c .pre) (table-shape (c .args .table) _ (c .good .0))
+
+column-in-range-requires-2 : tie.Need-column-in-range-requires-2 Inv-loop μ-loop
+column-in-range-requires-2 c κs = can-read-deadlines _ _ _ (c .before .pre) (table-shape (c .before .args .table) _ (c .before .good .0))
 
 loop-holds : tie.Need-loop-holds Inv-loop μ-loop
-loop-holds c = test-begins _ _ _ (c .before .pre) (table-shape (c .before .args .table) _ (c .before .good .0)) (c .column-in-range .result) (c .column-in-range .ensures)
+loop-holds c =
+    test-begins _ _ _ (c .before .before .pre) (table-shape (c .before .before .args .table) _ (c .before .before .good .0)) (c .before .column-in-range .ensures)
+    (good-length (eInt w32) 64 (c .column-in-range2 .result) _ (c .column-in-range2 .ok)) (c .column-in-range2 .ensures)
 
 add-t : tie.Need-add-t Inv-loop μ-loop
-add-t c = omega (arith, c .before .before .before .pre .frame)
+add-t c = omega (arith, c .before .before .before .before .pre .frame)
 
 advance-requires : tie.Need-advance-requires Inv-loop μ-loop
-advance-requires c κs = can-go-on _ _ _ (c .before .before .before .pre) (table-shape (c .before .before .before .args .table) _ (c .before .before .before .good .0)) _ _ (c .loop-test .taken) (c .before .loop .inv .due-few)
+advance-requires c κs = can-advance (c .before .before .before .loop .inv .has) (c .before .before .before .loop .inv .due-walk) (omega (arith, c .before .before .before .before .before .before .pre .frame .1))
+
+add-due : tie.Need-add-due Inv-loop μ-loop
+add-due c = omega (arith, c .advance .ensures .few, c .before .before .before .before .loop .inv .due-few, c .before .before .before .before .before .before .before .pre .count, c .before .before .before .before .before .before .before .pre .frame .1)
 
 mul-if1 : tie.Need-mul-if1 Inv-loop μ-loop
-mul-if1 c = omega (arith, slots-fit _ _ _ (c .before .before .before .before .pre) _ (c .before .loop-test .taken))
+mul-if1 c = omega (arith, slots-fit _ _ _ (c .before .before .before .before .before .before .before .pre) _ (c .before .before .before .loop-test .taken))
 
 returns : tie.Need-returns Inv-loop μ-loop
-returns c = rule-fails _ _ _ (c .before .before .before .before .before .before .pre) (c .before .before .before .before .loop .inv) (c .before .before .advance .ensures) (c .if1 .taken)
+returns c = rule-fails _ _ _ (c .before .before .before .before .before .before .before .before .pre) (c .before .before .before .before .before .loop .inv) (c .before .advance .ensures) (c .if1 .taken)
 
 advance-requires-2 : tie.Need-advance-requires-2 Inv-loop μ-loop
-advance-requires-2 c κs = can-go-on _ _ _ (c .before .before .before .before .before .before .pre) (table-shape (c .before .before .before .before .before .before .args .table) _ (c .before .before .before .before .before .before .good .0)) _ _ (c .before .before .before .loop-test .taken) (c .before .before .before .before .loop .inv .all-few)
+advance-requires-2 c κs = can-advance (c .before .before .before .before .before .before .before .loop .inv .has) (c .before .before .before .before .before .before .before .loop .inv .all-walk) (omega (arith, c .before .before .before .before .before .before .before .before .before .before .pre .frame .1))
+
+add-all : tie.Need-add-all Inv-loop μ-loop
+add-all c = omega (arith, c .advance2 .ensures .few, c .before .before .before .before .before .before .before .before .loop .inv .all-few, c .before .before .before .before .before .before .before .before .before .before .before .pre .count, c .before .before .before .before .before .before .before .before .before .before .before .pre .frame .1)
 
 mul-if2 : tie.Need-mul-if2 Inv-loop μ-loop
-mul-if2 c = omega (arith, slots-fit _ _ _ (c .before .before .before .before .before .before .before .pre) _ (c .before .before .before .before .loop-test .taken))
+mul-if2 c = omega (arith, slots-fit _ _ _ (c .before .before .before .before .before .before .before .before .before .before .before .pre) _ (c .before .before .before .before .before .before .before .loop-test .taken))
 
 returns-2 : tie.Need-returns-2 Inv-loop μ-loop
 returns-2 c =
-    let start = c .before .before .before .before .before .before .before .before .before in
-    let in-loop = c .before .before .before .before .before .before in
-    busy-found _ _ _ (start .pre) (one-length-more _ _ _ (start .pre) (in-loop .before .loop .inv) (in-loop .loop-test .taken) (c .before .before .before .before .before .advance .ensures) (c .before .before .before .if1 .left) (c .before .before .advance2 .ensures)) (omega arith) (c .if2 .taken)
+    busy-found _ _ _ (c .before .before .before .before .before .before .before .before .before .before .before .before .pre) (one-length-more _ _ _ (c .before .before .before .before .before .before .before .before .before .before .before .before .pre) (c .before .before .before .before .before .before .before .before .before .loop .inv) (c .before .before .before .before .before .advance .ensures) (c .before .before .before .before .before .before .before .before .loop-test .taken) (c .before .before .before .before .if1 .left) (c .before .advance2 .ensures)) (omega arith) (c .if2 .taken)
 
 loop-less : tie.Need-loop-less Inv-loop μ-loop
 loop-less c = omega arith
 
 loop-again : tie.Need-loop-again Inv-loop μ-loop
-loop-again c =
-    let start = c .before .before .before .before .before .before .before .before .before in
-    let in-loop = c .before .before .before .before .before .before in
-    one-length-more _ _ _ (start .pre) (in-loop .before .loop .inv) (in-loop .loop-test .taken) (c .before .before .before .before .before .advance .ensures) (c .before .before .before .if1 .left) (c .before .before .advance2 .ensures)
+loop-again c = one-length-more _ _ _ (c .before .before .before .before .before .before .before .before .before .before .before .before .pre) (c .before .before .before .before .before .before .before .before .before .loop .inv) (c .before .before .before .before .before .advance .ensures) (c .before .before .before .before .before .before .before .before .loop-test .taken) (c .before .before .before .before .if1 .left) (c .before .advance2 .ensures)
 
 returns-3 : tie.Need-returns-3 Inv-loop μ-loop
-returns-3 c = frame-reached _ _ _ (c .before .before .before .pre) (c .before .loop .inv) (c .loop-test .left)
+returns-3 c = frame-reached _ _ _ (c .before .before .before .before .pre) (c .before .loop .inv) (c .loop-test .left)
 
 pub busy-length-in-range-spec : {M : Type 1} → statement M
 busy-length-in-range-spec =
@@ -61,12 +70,15 @@ busy-length-in-range-spec =
     Inv-loop
     μ-loop
     column-in-range-requires
+    column-in-range-requires-2
     loop-holds
     add-t
     advance-requires
+    add-due
     mul-if1
     returns
     advance-requires-2
+    add-all
     mul-if2
     returns-2
     loop-less

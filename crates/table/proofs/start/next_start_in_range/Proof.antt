@@ -1,8 +1,8 @@
 -- `table::start::next_start_in_range` meets its contract: an empty table leaves the cap, and else the search begins at the least due time.
 use native.Mathlib.Omega.{arith}
 use borrow.Author.Needs.{needs}
-use Rattle.table.specs.SearchFacts.{empty-table, can-read-due, can-look}
-use Rattle.table.proofs.Shape.{table-shape}
+use Rattle.table.specs.SearchFacts.{empty-table, can-read-period, can-read-due, can-look}
+use Rattle.table.proofs.Shape.{table-holds}
 use Rattle.table.proofs.start.next_start_in_range.Statement.{statement}
 use Rattle.table.proofs.start.next_start_in_range.Tie as tie
 
@@ -10,14 +10,17 @@ returns : tie.Need-returns
 returns c = empty-table (c .before .before .pre) (c .if1 .taken)
 
 column-in-range-requires : tie.Need-column-in-range-requires
-column-in-range-requires c κs = can-read-due (c .before .before .pre) (omega (arith, c .before .before .pre .count, table-shape (c .before .before .args .table) _ (c .before .before .good .0)))
+column-in-range-requires c κs = can-read-period (c .before .before .pre) (table-holds (c .before .before .args .table) _ (c .before .before .good .0) (c .before .before .pre .count))
+
+column-in-range-requires-2 : tie.Need-column-in-range-requires-2
+column-in-range-requires-2 c κs = can-read-due (c .before .before .before .pre) (table-holds (c .before .before .before .args .table) _ (c .before .before .before .good .0) (c .before .before .before .pre .count))
 
 least-of-requires : tie.Need-least-of-requires
 least-of-requires c κs = search needs
 
 start-from-requires : tie.Need-start-from-requires
 start-from-requires c κs =
-    can-look (c .before .before .before .before .pre) (omega (arith, c .before .before .before .before .pre .count, table-shape (c .before .before .before .before .args .table) _ (c .before .before .before .before .good .0))) (c .before .column-in-range .ensures) (c .least-of .ensures)
+    can-look (c .before .before .before .before .before .pre) (table-holds (c .before .before .before .before .before .args .table) _ (c .before .before .before .before .before .good .0) (c .before .before .before .before .before .pre .count)) (c .before .before .column-in-range .ensures) (c .before .column-in-range2 .ensures) (c .least-of .ensures)
 
 returns-2 : tie.Need-returns-2
 returns-2 c = search needs
@@ -25,4 +28,10 @@ returns-2 c = search needs
 pub next-start-in-range-spec : {M : Type 1} → statement M
 next-start-in-range-spec =
     tie.close
-    (tie.spec returns column-in-range-requires least-of-requires start-from-requires returns-2)
+    (tie.spec
+    returns
+    column-in-range-requires
+    column-in-range-requires-2
+    least-of-requires
+    start-from-requires
+    returns-2)

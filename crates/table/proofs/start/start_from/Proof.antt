@@ -1,42 +1,59 @@
--- `table::start::start_from` meets its contract: the lengths before t have been looked at, and the walk stands at the length before t.
+-- `table::start::start_from` meets its contract: the lengths before t have been looked at, the walk stands at the length before t, and the
+-- rounds needed there are not too many for t.
 use mathlib.Core.Path.{_≡_, refl}
 use Prim.Native.Nat.{ℕ, _+_, _-_, _*_, _≤_}
+use native.Mathlib.Nat.{le-trans}
 use native.Mathlib.Omega.{arith}
+use mir.Syntax.{w32}
 use borrow.Author.Needs.{needs}
+use borrow.Kind.Array.{good-length, eInt}
 use Rattle.rules.specs.Streams.{due}
+use Rattle.rules.specs.Demand.{ceil}
+use Rattle.rules.specs.Division.{div-mono}
 use Rattle.table.specs.Table.{streams-of}
 use Rattle.table.specs.Lengths.{IsWalk}
+use Rattle.table.specs.LengthFacts.{can-advance}
 use Rattle.table.specs.StartFacts.{Looked, looked-none}
-use Rattle.table.specs.SearchFacts.{begins, can-advance, few-rounds, walked, stops, goes-on, ends}
+use Rattle.table.specs.SearchFacts.{begins, few-rounds, walked, stops, goes-on, ends}
 use Rattle.table.proofs.start.start_from.Statement.{statement}
 use Rattle.table.proofs.start.start_from.Tie as tie
 
 abbrev Inv-loop : tie.InvT-loop
-Inv-loop table slots now cap first busy end walk₀ start₀ t₀ walk start t =
-    (first ≤ t) × (t ≤ first + busy) × (walk .sum ≤ 64 * (t - first)) × Looked slots now cap (streams-of table) first t start
-    × ((before : ℕ) × (before + 1 ≡ t) × IsWalk due table before walk)
+Inv-loop table slots now cap first busy periods end times₀ sum₀ needed₀ start₀ t₀ times sum needed start t =
+    (first ≤ t) × (t ≤ first + busy) × (sum ≤ 64 * (t - first)) × (needed ≤ ceil sum slots) × Looked slots now cap (streams-of table) first t start
+    × ((before : ℕ) × (before + 1 ≡ t) × IsWalk due table before times sum)
 
 abbrev μ-loop : tie.MeasureT-loop
-μ-loop table slots now cap first busy end walk₀ start₀ t₀ walk start t = first + busy - t
+μ-loop table slots now cap first busy periods end times₀ sum₀ needed₀ start₀ t₀ times sum needed start t = first + busy - t
 
 add-end : tie.Need-add-end Inv-loop μ-loop
 add-end c = omega (arith, c .pre .near, c .pre .can .now, c .pre .can .short)
 
 loop-holds : tie.Need-loop-holds Inv-loop μ-loop
-loop-holds c = (omega arith, omega arith, omega arith, looked-none _ _ _ _ _ (c .pre .can .cap), (c .args .first - 1, omega (arith, c .pre .after), begins (c .pre)))
+loop-holds c =
+    let start = begins (c .pre) (good-length (eInt w32) 64 (c .args .dues) _ (c .good .1 .1 .0)) in
+    (omega arith, omega arith, omega arith, omega arith, looked-none _ _ _ _ _ (c .pre .can .cap), (c .args .first - 1, omega (arith, c .pre .after), start))
 
 advance-requires : tie.Need-advance-requires Inv-loop μ-loop
-advance-requires c κs = can-advance (c .before .before .pre .can) (c .before .before .pre .within) (omega (arith, c .before .before .pre .near, c .before .before .pre .can .now, c .before .before .pre .can .short)) (omega (arith, c .before .before .pre .can .short))
+advance-requires c κs = can-advance (c .before .before .before .before .pre .has) (c .before .before .before .loop .inv .5 .2) (omega (arith, c .before .before .before .before .pre .near, c .before .before .before .before .pre .can .now, c .before .before .before .before .pre .can .short))
 
-rounds-for-requires : tie.Need-rounds-for-requires Inv-loop μ-loop
-rounds-for-requires c κs = (omega (arith, c .advance .ensures .few, c .before .before .before .pre .can .short), c .before .before .before .pre .can .slots)
+add-sum : tie.Need-add-sum Inv-loop μ-loop
+add-sum c = omega (arith, c .advance .ensures .few, c .before .before .before .before .before .pre .can .count, c .before .before .before .before .before .pre .can .short)
+
+rounds-from-requires : tie.Need-rounds-from-requires Inv-loop μ-loop
+rounds-from-requires c κs =
+    record {
+      slots = c .before .before .before .before .before .pre .can .slots;
+      few = omega (arith, c .advance .ensures .few, c .before .before .before .before .before .pre .can .count, c .before .before .before .before .before .pre .can .short);
+      low = le-trans (c .before .before .before .before .loop .inv .3) (div-mono (c .before .before .before .before .before .args .slots) (c .before .before .before .before .before .pre .can .slots .0) (omega arith));
+    }
 
 add-if1 : tie.Need-add-if1 Inv-loop μ-loop
 add-if1 c =
-    omega (arith, few-rounds (c .before .before .before .before .pre .can .slots .0) (c .rounds-for .ensures), c .before .advance .ensures .few, c .before .before .before .before .pre .can .now, c .before .before .before .before .pre .can .short)
+    omega (arith, few-rounds (c .before .before .before .before .before .before .args .slots) (c .before .before .before .before .before .loop .sum + c .before .advance .result) (c .before .before .before .before .before .before .pre .can .slots .0), c .rounds-from .ensures, c .before .advance .ensures .few, c .before .before .before .before .before .before .pre .can .count, c .before .before .before .before .before .before .pre .can .now, c .before .before .before .before .before .before .pre .can .short)
 
 returns : tie.Need-returns Inv-loop μ-loop
-returns c = stops (c .before .before .before .before .before .pre) (walked (c .before .before .advance .ensures) (c .before .before .before .before .loop .inv .4)) (c .before .rounds-for .ensures) (c .before .before .before .before .loop .inv .0) (omega arith)
+returns c = stops (c .before .before .before .before .before .before .before .pre) (walked (c .before .before .before .before .before .before .before .pre) (c .before .before .before .before .before .before .loop .inv .5) (c .before .before .advance .ensures)) (c .before .rounds-from .ensures) (c .before .before .before .before .before .before .loop .inv .0) (omega arith)
 
 sub-lesser : tie.Need-sub-lesser Inv-loop μ-loop
 sub-lesser c = omega arith
@@ -45,23 +62,24 @@ lesser-requires : tie.Need-lesser-requires Inv-loop μ-loop
 lesser-requires c κs = search needs
 
 add-t : tie.Need-add-t Inv-loop μ-loop
-add-t c = omega (arith, c .before .before .before .before .before .before .pre .near, c .before .before .before .before .before .before .pre .can .now, c .before .before .before .before .before .before .pre .can .short)
+add-t c = omega (arith, c .before .before .before .before .before .before .before .before .pre .near, c .before .before .before .before .before .before .before .before .pre .can .now, c .before .before .before .before .before .before .before .before .pre .can .short)
 
 loop-less : tie.Need-loop-less Inv-loop μ-loop
 loop-less c = omega arith
 
 loop-again : tie.Need-loop-again Inv-loop μ-loop
 loop-again c =
-    let walk = walked (c .before .before .before .advance .ensures) (c .before .before .before .before .before .loop .inv .4) in (
+    let walk = walked (c .before .before .before .before .before .before .before .before .pre) (c .before .before .before .before .before .before .before .loop .inv .5) (c .before .before .before .advance .ensures) in (
       omega arith,
       omega arith,
-      omega (arith, c .before .before .before .advance .ensures .few),
-      goes-on (c .before .before .before .before .before .before .pre) walk (c .before .before .rounds-for .ensures) (c .before .before .before .before .before .loop .inv .0) (omega arith) (c .before .before .before .before .before .loop .inv .3) (omega arith),
+      omega (arith, c .before .before .before .advance .ensures .few, c .before .before .before .before .before .before .before .before .pre .can .count),
+      omega (arith, c .before .before .rounds-from .ensures),
+      goes-on (c .before .before .before .before .before .before .before .before .pre) walk (c .before .before .rounds-from .ensures) (c .before .before .before .before .before .before .before .loop .inv .0) (omega arith) (c .before .before .before .before .before .before .before .loop .inv .4) (c .lesser .ensures),
       (_, refl, walk),
     )
 
 returns-2 : tie.Need-returns-2 Inv-loop μ-loop
-returns-2 c = ends (c .before .before .pre) (omega arith) (c .before .loop .inv .3)
+returns-2 c = ends (c .before .before .pre) (omega arith) (c .before .loop .inv .4)
 
 pub start-from-spec : {M : Type 1} → statement M
 start-from-spec =
@@ -72,7 +90,8 @@ start-from-spec =
     add-end
     loop-holds
     advance-requires
-    rounds-for-requires
+    add-sum
+    rounds-from-requires
     add-if1
     returns
     sub-lesser

@@ -1,0 +1,40 @@
+-- `table::start::rounds_from` meets its contract: the rounds counted are never too many.
+use Prim.Native.Nat.{_-_, _*_, _≤_}
+use native.Mathlib.Nat.{mul-le-mul}
+use native.Mathlib.Omega.{arith}
+use Rattle.rules.specs.Demand.{ceil}
+use Rattle.rules.specs.Division.{ceil-least}
+use Rattle.table.specs.SearchFacts.{few-rounds, too-few-rounds}
+use Rattle.table.proofs.start.rounds_from.Statement.{statement}
+use Rattle.table.proofs.start.rounds_from.Tie as tie
+
+abbrev Inv-loop : tie.InvT-loop
+Inv-loop needed packets slots n₀ n = n ≤ ceil packets slots
+
+abbrev μ-loop : tie.MeasureT-loop
+μ-loop needed packets slots n₀ n = ceil packets slots - n
+
+loop-holds : tie.Need-loop-holds Inv-loop μ-loop
+loop-holds c = c .pre .low
+
+mul-loop : tie.Need-mul-loop Inv-loop μ-loop
+mul-loop c =
+    let few : c .loop .n ≤ 1_000_000 = omega (arith, few-rounds (c .before .args .slots) (c .before .args .packets) (c .before .pre .slots .0), c .before .pre .few) in
+    let most : c .before .args .slots * c .loop .n ≤ 64 * 1_000_000 = mul-le-mul (c .before .pre .slots .1) few in
+    omega (arith, most)
+
+add-n : tie.Need-add-n Inv-loop μ-loop
+add-n c = omega (arith, few-rounds (c .before .before .args .slots) (c .before .before .args .packets) (c .before .before .pre .slots .0), c .before .loop .inv, c .before .before .pre .few)
+
+loop-less : tie.Need-loop-less Inv-loop μ-loop
+loop-less c = omega (arith, too-few-rounds (c .before .before .pre .slots .0) (c .loop-test .taken))
+
+loop-again : tie.Need-loop-again Inv-loop μ-loop
+loop-again c = omega (arith, too-few-rounds (c .before .before .pre .slots .0) (c .loop-test .taken))
+
+returns : tie.Need-returns Inv-loop μ-loop
+returns c = omega (arith, ceil-least _ _ _ (c .before .before .pre .slots .0) (c .loop-test .left), c .before .loop .inv)
+
+pub rounds-from-spec : {M : Type 1} → statement M
+rounds-from-spec =
+    tie.close (tie.spec Inv-loop μ-loop loop-holds mul-loop add-n loop-less loop-again returns)

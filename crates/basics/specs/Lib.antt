@@ -4,3 +4,5 @@ pub mod Refusals
 pub mod Below
 pub mod Sorted
 pub mod Members
+pub mod Places
+pub mod PlaceFacts

@@ -1,1 +1,28 @@
-// Notions that several crates share, with no code: deciding, refusals in order, lists in order. All in specs/.
+// Notions that several crates share: deciding, refusals in order, lists in order, and a number's place among 64 that rise.
+ghost use Prim.Native.Nat.{_+_, _≤_};
+ghost use Rattle.basics.specs.Places.{Rises, IsPlaceAmong, IsUpper};
+
+// The lower end for the next half: past this one if it ends below x.
+fn upper(low: usize, step: usize, there: u32, x: u32) -> usize
+    requires { ⌜ low + step ≤ 64 ⌝ }
+    ensures { λ r. ⌜ IsUpper low step there x r ⌝ }
+{
+    if there < x {
+        return low + step;
+    }
+    low
+}
+
+// How many of 64 rising numbers are less than x, 63 at most, found by halving.
+pub fn place_among(values: &[u32; 64], x: u32) -> usize
+    requires { ⌜ Rises (now values) ⌝ }
+    ensures { λ r. ⌜ IsPlaceAmong (now (values .entry)) x r ⌝ }
+{
+    let mut low: usize = 0;
+    let mut step: usize = 64;
+    while 1 < step {
+        step = step / 2;
+        low = upper(low, step, values[low + (step - 1)], x);
+    }
+    low
+}

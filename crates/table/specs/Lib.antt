@@ -5,7 +5,9 @@ pub mod Range
 pub mod Changes
 pub mod Places
 pub mod Lengths
+pub mod Ids
 pub mod TableFacts
+pub mod IdFacts
 pub mod ChangeFacts
 pub mod MoveFacts
 pub mod LengthFacts

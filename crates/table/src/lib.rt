@@ -2,6 +2,7 @@
 // whose names end in _in_range.
 ghost use mathlib.Core.Path.{_≡_};
 ghost use Prim.Native.Nat.{_≤_};
+ghost use Rattle.table.specs.Ids.{IsIds};
 ghost use Rattle.table.specs.Table.{CanRead, IsColumn, stream-of, value-of};
 pub use changes::find_in_range;
 pub use changes::place_of_in_range;
@@ -69,4 +70,20 @@ pub fn column_in_range(table: Table, column: Column) -> [u32; 64]
         i += 1;
     }
     values
+}
+
+// The ids at their places, and a number above every id at the free ones, so that all 64 rise.
+pub fn ids_in_range(table: Table) -> [u32; 64]
+    requires { ⌜ table .count ≤ 64 ⌝ }
+    ensures { λ r. ⌜ IsIds table r ⌝ }
+{
+    let streams = table.streams;
+    let mut ids = [4_294_967_295u32; 64];
+    let mut i: usize = 0;
+    while i < table.count {
+        let stream = streams[i];
+        ids[i] = stream.id;
+        i += 1;
+    }
+    ids
 }

@@ -1,0 +1,12 @@
+-- The ids of a table in an array of 64 that rise, to be searched by halving.
+use mathlib.Core.Path.{_≡_}
+use mathlib.Core.List.{List}
+use Prim.Native.Nat.{ℕ, _≤_, _<_}
+use lib.ListN.{getD}
+use Rattle.table.specs.Table.{stream-at}
+use Rattle.table.specs.declared.Table.{Table}
+
+-- The ids at the streams' places, the largest number of 32 bits at the free ones.
+pub record IsIds (table : Table) (r : List ℕ) : Type 0 where
+  pub ids : (k : ℕ) → k < table .count → getD r k 0 ≡ stream-at table k .number
+  pub free : (k : ℕ) → table .count ≤ k → k < 64 → getD r k 0 ≡ 4_294_967_295

@@ -1,6 +1,6 @@
 -- Lists of entries in order, and what the calls do to them.
 use mathlib.Core.Path.{_≡_}
-use mathlib.Core.Logic.{ite, Dec·not}
+use mathlib.Core.Logic.{_↔_, ite, Dec·not}
 use mathlib.Core.List.{List, [], _∷_, List·Mem, filter}
 use Prim.Native.Nat.{ℕ, _+_, _≤_, _<_}
 use native.Mathlib.Decide.{ℕ-discrete}
@@ -32,6 +32,10 @@ Filed id es = ∥ ((e : Entry) × List·Mem e es × (e .id ≡ id)) ∥₁
 -- Each of the first n pairs of key and id is an entry.
 abbrev pub AllFiled : (ids keys : List ℕ) → ℕ → List Entry → Type 0
 AllFiled ids keys n es = (i : ℕ) → i < n → List·Mem (record { key = getD keys i 0; id = getD ids i 0 }) es
+
+-- The entries are just the first n pairs of key and id.
+abbrev pub FilesJust : (ids keys : List ℕ) → ℕ → List Entry → Type 0
+FilesJust ids keys n es = (e : Entry) → List·Mem e es ↔ ∥ ((i : ℕ) × (i < n) × (e ≡ record { key = getD keys i 0; id = getD ids i 0 })) ∥₁
 
 -- 01: no "key above 2,000,000,000" and no "span of largest minus smallest key above 479".
 pub record InBounds (es : List Entry) : Type 0 where

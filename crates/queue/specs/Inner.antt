@@ -3,6 +3,7 @@ use mathlib.Core.Path.{_≡_}
 use Prim.Native.Nat.{ℕ, _+_, _%_, _≤_, _<_}
 use mathlib.Core.List.{List}
 use lib.ListN.{length, getD, set}
+use Rattle.basics.specs.Places.{Rises}
 use Rattle.queue.specs.Order.{Entry, Before}
 use Rattle.queue.specs.Entries.{Filed, InBounds}
 use Rattle.queue.specs.Calls.{inserted, moved}
@@ -92,3 +93,18 @@ pub record IsFirstAfter (q : Queue) (pair : Entry) (x : ℕ) : Type 0 where
   pub found : x < 64 → Holds q x × Before pair (entry-at q x)
   pub first : x < 64 → (i : ℕ) → Holds q i → Before pair (entry-at q i) → Before (entry-at q i) (entry-at q x) → ⊥
   pub none : x ≡ 64 → (i : ℕ) → Holds q i → Before pair (entry-at q i) → ⊥
+
+-- n pairs of key and id that a sound queue can file, in ascending id, with larger numbers behind them.
+pub record CanFile (ids keys : List ℕ) (n : ℕ) : Type 0 where
+  pub few : n ≤ 64
+  pub rise : Rises ids
+  pub ascend : (i j : ℕ) → i < j → j < n → getD ids i 0 < getD ids j 0
+  pub some : (i : ℕ) → i < n → 1 ≤ getD ids i 0
+  pub small : (i : ℕ) → i < n → getD ids i 0 ≤ 32767
+  pub keys-in-range : (i : ℕ) → i < n → getD keys i 0 ≤ 2_000_000_000
+  pub span : (i j : ℕ) → i < n → j < n → getD keys i 0 ≤ getD keys j 0 + 479
+
+-- r is which of the first n pairs this is, or 64 where it is none of them.
+pub record IsPair (ids keys : List ℕ) (n id key r : ℕ) : Type 0 where
+  pub found : (r ≡ 64 → ⊥) → (r < n) × (getD ids r 0 ≡ id) × (getD keys r 0 ≡ key)
+  pub absent : r ≡ 64 → (i : ℕ) → i < n → getD ids i 0 ≡ id → getD keys i 0 ≡ key → ⊥

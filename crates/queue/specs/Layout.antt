@@ -13,6 +13,8 @@ pub mod Answers
 pub mod First
 pub mod Heads
 pub mod Filed
+pub mod Filing
+pub mod FilingSound
 pub mod Laws
 use mathlib.Core.Path.{_≡_}
 use mathlib.Core.Logic.{_⊎_, ite}

@@ -2,6 +2,7 @@
 pub mod Order
 pub mod Entries
 pub mod EntryFacts
+pub mod Marks
 pub mod Layout
 pub mod Calls
 pub mod Inner

@@ -8,6 +8,7 @@ ghost use Rattle.queue.specs.Layout.{entries};
 ghost use Rattle.queue.specs.Calls.{insert-refusals, delete-refusals, move-refusals, inserted, moved, HasEntries, IsChange, least-of, next-of};
 pub use filed::all_filed_sound;
 pub use filed::filed_count;
+pub use filing::is_sound_filing_in_range;
 use links::place_of;
 pub use search::least_sound;
 pub use search::next_sound;
@@ -19,6 +20,7 @@ use sound::sum;
 pub use soundness::is_sound;
 
 mod filed;
+mod filing;
 mod links;
 mod search;
 mod sound;

@@ -127,7 +127,7 @@ fn node_is_right<'a>(
     prev_is_right(ids, next, x, p)
 }
 
-fn all_linked<'a>(
+pub fn all_linked<'a>(
     ids: &'a [u16; 64],
     keys: &'a [u32; 64],
     next: &'a [u16; 544],

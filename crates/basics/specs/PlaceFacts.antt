@@ -1,5 +1,5 @@
 -- Why halving finds the place of a number among 64 that rise, and where a number that stands among them is found.
-use mathlib.Core.Path.{_≡_, sym, ap, subst⁻¹}
+use mathlib.Core.Path.{_≡_, ap, subst⁻¹}
 use mathlib.Core.List.{List}
 use Prim.Native.Nat.{ℕ, _+_, _-_, _/_, _≤_, _<_}
 use native.Mathlib.Nat.{lt-irrefl}

@@ -2,7 +2,7 @@
 use mathlib.Core.Path.{_≡_, refl, sym, ap, subst, subst⁻¹, _∙_}
 use mathlib.Core.Logic.{_↔_, _∨₁_, Or·inl, Or·inr, Or·elim, ite, ∥∥₁-elim, ∥∥₁-map, ∥∥₁-prop}
 use mathlib.Core.HLevel.{×-prop, ¬-prop}
-use mathlib.Core.List.{List, _∷_, List·Mem, List·Mem-prop, List·Nodup, Pairwise, Pairwise·imp, Pairwise·map, nodup-cons, map, mem-map, mem-map-of-mem, eq-or-mem-of-mem-cons, decMem}
+use mathlib.Core.List.{List, List·Mem, List·Mem-prop, List·Nodup, Pairwise, Pairwise·imp, Pairwise·map, map, mem-map, mem-map-of-mem}
 use mathlib.Mathlib.Data.List.Nodup.{inj-on-of-nodup-map}
 use Prim.Native.Nat.{ℕ, _+_, _≤_, _<_}
 use native.Mathlib.Bridge.{le-prop}
@@ -16,7 +16,7 @@ use Rattle.rules.specs.Lists.{no-longer}
 use Rattle.rules.specs.Equality.{stream-set}
 use Rattle.queue.specs.Order.{Entry, Before}
 use Rattle.queue.specs.Entries.{without, Filed, InBounds}
-use Rattle.queue.specs.EntryFacts.{entry-path, entry-discrete, before-asym}
+use Rattle.queue.specs.EntryFacts.{entry-path, before-asym}
 use Rattle.queue.specs.Layout.{entries}
 use Rattle.queue.specs.Layout
 use Rattle.queue.specs.Layout.Laws.{entries-in-order, in-without-iff, in-inserted-iff, in-moved-iff}
@@ -86,27 +86,12 @@ module _ (q : Queue) (sound : Layout.Sound q) (ss : List Stream) (ascending : Pa
   stream-entries-differ =
       Pairwise·map (λ a b. ¬-prop) entry-of (λ a b less same. lt-irrefl (a .number) (omega (arith, less, ap (λ (e : Entry). e .id) same))) ascending
 
-  -- there are as many entries as streams ..
+  -- there are as many entries as streams
   pub files-length : Files (entries q) ss → length (entries q) ≡ length ss
   files-length files =
       le-antisymm
       (rw (length-map ss entry-of) at (no-longer (entries q) (map entry-of ss) entries-differ (λ e m. in-entries ss e .1 (files e .0 m))))
       (rw (length-map ss entry-of) at (no-longer (map entry-of ss) (entries q) stream-entries-differ (λ e m. files e .1 (in-entries ss e .0 m))))
-
-  -- .. and where there are, and each stream's is among them, there are no others
-  pub files-from : length (entries q) ≡ length ss → ((s : Stream) → List·Mem s ss → List·Mem (entry-of s) (entries q)) → Files (entries q) ss
-  files-from same-length filed e = (λ m. go m (decMem entry-discrete e (map entry-of ss)), λ some. inside e (in-entries ss e .1 some))
-    where
-      inside : (a : Entry) → List·Mem a (map entry-of ss) → List·Mem a (entries q)
-      inside a m = ∥∥₁-elim (mem-map .0 m) List·Mem-prop (λ w. subst (λ (b : Entry). List·Mem b (entries q)) (w .2) (filed (w .0) (w .1)))
-
-      go : List·Mem e (entries q) → Dec (List·Mem e (map entry-of ss)) → ∥ ((s : Stream) × List·Mem s ss × (e ≡ entry-of s)) ∥₁
-      go m (yes there) = in-entries ss e .0 there
-      go m (no stray) =
-          let longer : length (e ∷ map entry-of ss) ≤ length (entries q) =
-          no-longer (e ∷ map entry-of ss) (entries q) (nodup-cons .1 (stray, stream-entries-differ))
-          (λ a among. Or·elim List·Mem-prop (eq-or-mem-of-mem-cons among) (λ same. rw same m) (inside a)) in
-          absurd (lt-irrefl (length ss) (omega (arith, longer, length-map ss entry-of)))
 
 -- keys among 480 in a row are within the bounds
 pub within-bounds : (es : List Entry) (low : ℕ) → low + 479 ≤ 2_000_000_000 → ((e : Entry) → List·Mem e es → (low ≤ e .key) × (e .key ≤ low + 479)) → InBounds es

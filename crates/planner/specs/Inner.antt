@@ -30,7 +30,9 @@ pub record IsSoundStart (p : Planner) (r : ℕ) : Type 0 where
 pub record CanCompare (table : Table) : Type 0 where
   pub count : table .count ≤ 64
   pub ascending : Ascending (streams-of table)
-  pub small : (s : Stream) → List·Mem s (streams-of table) → (s .number ≤ 32767) × (due s ≤ 2_000_000_000)
+  pub ids : (s : Stream) → List·Mem s (streams-of table) → (1 ≤ s .number) × (s .number ≤ 32767)
+  pub dues : (s : Stream) → List·Mem s (streams-of table) → due s ≤ 2_000_000_000
+  pub span : (s t : Stream) → List·Mem s (streams-of table) → List·Mem t (streams-of table) → due s ≤ due t + 479
 
 -- The queue is sound and files exactly the streams of the table.
 abbrev pub IsFiled : Table → Queue → Type 0

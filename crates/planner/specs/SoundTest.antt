@@ -1,7 +1,8 @@
 -- The facts that the test of soundness rests on.
-use mathlib.Core.Path.{_≡_, sym, subst, subst⁻¹, _∙_}
+use mathlib.Core.Path.{_≡_, sym, _∙_}
 use mathlib.Core.Bool.{Bool}
-use mathlib.Core.List.{List, List·Mem, List·Mem-prop}
+use mathlib.Core.Logic.{_↔_, Iff·trans, Iff·symm, ∥∥₁-elim, ∥∥₁-map, ∥∥₁-prop}
+use mathlib.Core.List.{List, List·Mem}
 use Prim.Native.Nat.{ℕ, _+_, _≤_, _<_}
 use native.Mathlib.Nat.{lt-irrefl}
 use native.Mathlib.Omega.{arith}
@@ -10,13 +11,15 @@ use Rattle.basics.specs.Decides.{Decides, same-as}
 use Rattle.rules.specs.Streams.{Stream, due}
 use Rattle.table.specs.Table.{stream-of, streams-of, stream-at, IsColumn, CanRead}
 use Rattle.table.specs.TableFacts.{stream-at-mem, all-streams}
-use Rattle.table.specs.ChangeFacts.{streams-count}
+use Rattle.table.specs.Ids.{IsIds}
+use Rattle.table.specs.IdFacts.{ids-rise, ids-ascend}
 use Rattle.table.specs.Range.{TableInRange}
 use Rattle.table.specs.Lengths.{IsBusyLength, IsNextStart, CanTestDemand, CanFindStart}
 use Rattle.table.specs.declared.Table.{Table}
-use Rattle.table.specs.declared.Column.the-variants.{Id, Due}
+use Rattle.table.specs.declared.Column.the-variants.{Due}
 use Rattle.queue.specs.Order.{Entry}
-use Rattle.queue.specs.Entries.{AllFiled}
+use Rattle.queue.specs.Entries.{FilesJust}
+use Rattle.queue.specs.Inner.{CanFile}
 use Rattle.queue.specs.EntryFacts.{entry-path}
 use Rattle.queue.specs.Layout.{entries}
 use Rattle.queue.specs.Layout
@@ -24,40 +27,48 @@ use Rattle.queue.specs.declared.Queue.{Queue}
 use Rattle.planner.specs.Sound.{entry-of, Sound}
 use Rattle.planner.specs.OpenFacts.{NumbersInRange}
 use Rattle.planner.specs.Inner.{IsSoundStart, CanCompare, IsFiled}
-use Rattle.planner.specs.FilesFacts.{files-length, files-from, files-entry}
 use Rattle.planner.specs.declared.Planner.{Planner}
 
 module _ (table : Table) (can : CanCompare table) (long : length (table .streams) ≡ 64) where
   fits : table .count ≤ length (table .streams)
   fits = omega (arith, long, can .count)
 
-  pub can-read-ids : CanRead Id table
-  can-read-ids = record { count = can .count; small = λ k below. let w = can .small (stream-at table k) (stream-at-mem table fits k below) in omega arith }
+  held : (k : ℕ) → k < table .count → List·Mem (stream-at table k) (streams-of table)
+  held = stream-at-mem table fits
 
   pub can-read-dues : CanRead Due table
-  can-read-dues = record { count = can .count; small = λ k below. can .small (stream-at table k) (stream-at-mem table fits k below) .1 }
+  can-read-dues = record { count = can .count; small = λ k below. can .dues (stream-at table k) (held k below) }
 
-  module _ (q : Queue) (sound : Layout.Sound q) where
-    -- with another number of entries the queue does not file the streams
-    pub other-number : (length (entries q) ≡ table .count → ⊥) → IsFiled table q → ⊥
-    other-number differ filed = differ (files-length q sound (streams-of table) (can .ascending) (filed .1) ∙ streams-count table fits)
+  module _ (ids dues : List ℕ) (is-ids : IsIds table ids) (is-dues : IsColumn Due table dues) where
+    -- ids and due times of the streams are what a queue can file
+    pub can-file : CanFile ids dues (table .count)
+    can-file =
+        record {
+          few = can .count;
+          rise = ids-rise table (can .count) fits (can .ascending) is-ids (λ s m. can .ids s m .1);
+          ascend = ids-ascend table (can .count) fits (can .ascending) is-ids;
+          some = λ k below. omega (arith, is-ids .ids k below, can .ids (stream-at table k) (held k below));
+          small = λ k below. omega (arith, is-ids .ids k below, can .ids (stream-at table k) (held k below));
+          keys-in-range = λ k below. omega (arith, is-dues k below, can .dues (stream-at table k) (held k below));
+          span = λ j k low below. omega (arith, is-dues j low, is-dues k below, can .span (stream-at table j) (stream-at table k) (held j low) (held k below));
+        }
 
-    -- with the same number it does exactly if each stream's entry is there
-    pub filed-exactly : (b : Bool) → length (entries q) ≡ table .count → (ids dues : List ℕ) → IsColumn Id table ids → IsColumn Due table dues
-        → Decides b (AllFiled ids dues (table .count) (entries q)) → Decides b (IsFiled table q)
-    filed-exactly b same ids dues is-ids is-dues decides =
-        same-as
-        (λ all. (
-          sound,
-          files-from q sound (streams-of table) (can .ascending) (same ∙ sym (streams-count table fits))
-              (all-streams (λ s. List·Mem (entry-of s) (entries q)) (λ s. List·Mem-prop) table fits
-              (λ k below. subst (λ (e : Entry). List·Mem e (entries q)) (at-place k below) (all k below))),
-        ))
-        (λ filed k below. subst⁻¹ (λ (e : Entry). List·Mem e (entries q)) (at-place k below) (files-entry (entries q) (streams-of table) (filed .1) (stream-at table k) (stream-at-mem table fits k below)))
-        decides
+    -- the pair of a place is the entry of its stream, so the pairs are the streams' entries
+    pairs-are-entries : (e : Entry) → ∥ ((k : ℕ) × (k < table .count) × (e ≡ record { key = getD dues k 0; id = getD ids k 0 })) ∥₁ ↔ ∥ ((s : Stream) × List·Mem s (streams-of table) × (e ≡ entry-of s)) ∥₁
+    pairs-are-entries e = (
+      λ some. ∥∥₁-map some (λ w. (stream-at table (w .0), held (w .0) (w .1), w .2 ∙ pair (w .0) (w .1))),
+      λ some. ∥∥₁-elim some ∥∥₁-prop (λ w. ∥∥₁-map (placed (w .0) (w .1)) (λ v. (v .0, v .1, w .2 ∙ v .2))),
+    )
       where
-        at-place : (k : ℕ) → k < table .count → record { key = getD dues k 0; id = getD ids k 0 } ≡ entry-of (stream-at table k)
-        at-place k below = entry-path (record { key = getD dues k 0; id = getD ids k 0 }) (entry-of (stream-at table k)) (is-dues k below) (is-ids k below)
+        pair : (k : ℕ) → k < table .count → record { key = getD dues k 0; id = getD ids k 0 } ≡ entry-of (stream-at table k)
+        pair k below = entry-path (record { key = getD dues k 0; id = getD ids k 0 }) (entry-of (stream-at table k)) (is-dues k below) (is-ids .ids k below)
+
+        placed : (s : Stream) → List·Mem s (streams-of table) → ∥ ((k : ℕ) × (k < table .count) × (entry-of s ≡ record { key = getD dues k 0; id = getD ids k 0 })) ∥₁
+        placed = all-streams (λ s. ∥ ((k : ℕ) × (k < table .count) × (entry-of s ≡ record { key = getD dues k 0; id = getD ids k 0 })) ∥₁) (λ s. ∥∥₁-prop) table fits (λ k below. ∣ (k, below, sym (pair k below)) ∣₁)
+
+    -- so a queue that files just the pairs files the streams
+    pub filed-exactly : (q : Queue) {b : Bool} → Decides b (Layout.Sound q × FilesJust ids dues (table .count) (entries q)) → Decides b (IsFiled table q)
+    filed-exactly q = same-as (λ w. (w .0, λ e. Iff·trans (w .1 e) (pairs-are-entries e))) (λ w. (w .0, λ e. Iff·trans (w .1 e) (Iff·symm (pairs-are-entries e))))
 
 -- a planner that is not sound has no start to give
 pub no-start : (p : Planner) → (Sound p → ⊥) → IsSoundStart p 0
@@ -67,15 +78,19 @@ pub table-in-range : (p : Planner) → Sound p → TableInRange (p .frame) (p .l
 table-in-range p sound = record { count = sound .count; streams = sound .content-sound .in-range .streams; near = sound .content-sound .near }
 
 module _ (p : Planner) (numbers : NumbersInRange (p .slots) (p .frame) (p .gap) (p .last)) (range : TableInRange (p .frame) (p .last + 1) (p .table)) where
+  late : (s : Stream) → List·Mem s (streams-of (p .table)) → due s ≤ p .last + 1 + 479
+  late s m =
+      let each = range .streams .each s m in
+      omega (arith, range .near .released s m, each .period, each .deadline)
+
   pub can-compare : CanCompare (p .table)
   can-compare =
       record {
         count = range .count;
         ascending = range .streams .ascending;
-        small = λ s m.
-            let each = range .streams .each s m in
-            let released = range .near .released s m in
-            (each .id .1, omega (arith, each .period, each .deadline, numbers .last));
+        ids = λ s m. range .streams .each s m .id;
+        dues = λ s m. omega (arith, late s m, numbers .last);
+        span = λ s t m n. omega (arith, late s m, range .near .due-after t n);
       }
 
   pub can-test-demand : CanTestDemand (p .slots) (p .frame) (p .table)

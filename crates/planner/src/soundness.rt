@@ -9,21 +9,14 @@ use table::Column;
 use table::Stream;
 use table::Table;
 
-// Whether the queue is sound and files exactly the streams of the table: as many entries as streams, and each stream's among them.
+// Whether the queue is sound and files exactly the streams of the table. Ids are looked up by halving: the table has them in ascending order.
 pub fn is_filed_in_range(table: Table, queue: Queue) -> bool
     requires { ⌜ CanCompare table ⌝ }
     ensures { λ r. ⌜ Decides r (IsFiled table queue) ⌝ }
 {
-    if !queue::is_sound(queue) {
-        return false;
-    }
-    let filed = queue::filed_count(queue) as usize;
-    if filed != table.count {
-        return false;
-    }
-    let ids = table::column_in_range(table, Column::Id);
+    let ids = table::ids_in_range(table);
     let dues = table::column_in_range(table, Column::Due);
-    queue::all_filed_sound(queue, ids, dues, table.count)
+    queue::is_sound_filing_in_range(queue, ids, dues, table.count)
 }
 
 // The planner's next start by the lazy rule, or 0 if it is not sound, on any value whatever. A start is at least 1.

@@ -29,10 +29,6 @@ key-of id (e ∷ es) = ite (ℕ-discrete (e .id) id) (e .key) (key-of id es)
 abbrev pub Filed : ℕ → List Entry → Type 0
 Filed id es = ∥ ((e : Entry) × List·Mem e es × (e .id ≡ id)) ∥₁
 
--- Each of the first n pairs of key and id is an entry.
-abbrev pub AllFiled : (ids keys : List ℕ) → ℕ → List Entry → Type 0
-AllFiled ids keys n es = (i : ℕ) → i < n → List·Mem (record { key = getD keys i 0; id = getD ids i 0 }) es
-
 -- The entries are just the first n pairs of key and id.
 abbrev pub FilesJust : (ids keys : List ℕ) → ℕ → List Entry → Type 0
 FilesJust ids keys n es = (e : Entry) → List·Mem e es ↔ ∥ ((i : ℕ) × (i < n) × (e ≡ record { key = getD keys i 0; id = getD ids i 0 })) ∥₁

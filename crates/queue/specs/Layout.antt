@@ -12,7 +12,6 @@ pub mod Buckets
 pub mod Answers
 pub mod First
 pub mod Heads
-pub mod Filed
 pub mod Filing
 pub mod FilingSound
 pub mod Laws

@@ -1,5 +1,4 @@
 // Whether a queue files just the pairs of key and id that it is compared with, in one pass over its places.
-ghost use mathlib.Core.Path.{_≡_};
 ghost use Rattle.basics.specs.Decides.{Decides};
 ghost use Rattle.queue.specs.Entries.{FilesJust};
 ghost use Rattle.queue.specs.Layout.{entries, Sound};

@@ -6,8 +6,6 @@ ghost use Rattle.basics.specs.Refusals.{answer-of};
 ghost use Rattle.queue.specs.Entries.{without};
 ghost use Rattle.queue.specs.Layout.{entries};
 ghost use Rattle.queue.specs.Calls.{insert-refusals, delete-refusals, move-refusals, inserted, moved, HasEntries, IsChange, least-of, next-of};
-pub use filed::all_filed_sound;
-pub use filed::filed_count;
 pub use filing::is_sound_filing_in_range;
 use links::place_of;
 pub use search::least_sound;
@@ -19,7 +17,6 @@ pub use sound::move_sound;
 use sound::sum;
 pub use soundness::is_sound;
 
-mod filed;
 mod filing;
 mod links;
 mod search;

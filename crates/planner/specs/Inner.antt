@@ -2,21 +2,20 @@
 use mathlib.Core.Path.{_≡_}
 use mathlib.Core.List.{List, List·Mem}
 use Prim.Native.Nat.{ℕ, _+_, _≤_, _<_}
-use lib.ListN.{length, take, set}
+use lib.ListN.{length, take, getD}
 use Rattle.basics.specs.Refusals.{answer-of}
 use Rattle.rules.specs.Streams.{Stream, due}
 use Rattle.rules.specs.Demand.{DemandRule, StartRule}
-use Rattle.table.specs.Table.{streams-of}
-use Rattle.table.specs.Changes.{Ascending, CanChange}
+use Rattle.table.specs.Table.{streams-of, stream-at}
+use Rattle.table.specs.Changes.{Ascending}
 use Rattle.table.specs.declared.Table.{Table}
-use Rattle.queue.specs.Layout.{entries}
+use Rattle.queue.specs.Layout.{id-at, entries}
 use Rattle.queue.specs.Layout
 use Rattle.queue.specs.declared.Queue.{Queue}
 use Rattle.planner.specs.Content.{Content, content, now-of}
 use Rattle.planner.specs.Sound.{Files, Sound}
 use Rattle.planner.specs.Calls.{added, IsOffer}
 use Rattle.planner.specs.Round.{IsStart, ids-at, round-refusals}
-use Rattle.planner.specs.SlotWalk.{ReleasedBy}
 use Rattle.planner.specs.declared.Planner.{Planner}
 use Rattle.planner.specs.declared.slots.Chosen.{Chosen}
 
@@ -53,17 +52,6 @@ pub record CanAdd (p : Planner) (id start period deadline : ℕ) : Type 0 where
 abbrev pub IsRoundAnswer : Planner → ℕ → ℕ → Type 0
 IsRoundAnswer p n r = (buffer : List ℕ) → length buffer ≡ n → r ≡ answer-of (round-refusals p buffer)
 
--- What taking an id relies on: it is held, and a place is free for it.
-pub record CanVisit (table : Table) (chosen : Chosen) (id : ℕ) : Type 0 where
-  pub held : CanChange table id
-  pub room : chosen .n < 64
-  pub small : id ≤ 32767
-
--- An id is taken if its stream is released, else nothing changes.
-pub record IsVisit (s : ℕ) (ss : List Stream) (chosen : Chosen) (id : ℕ) (r : Chosen) : Type 0 where
-  pub taken : ReleasedBy s ss id → r ≡ record { ids = set (chosen .ids) (chosen .n) id; n = chosen .n + 1 }
-  pub skipped : (ReleasedBy s ss id → ⊥) → r ≡ chosen
-
 -- The slots are asked for at the start of a sound planner.
 pub record CanChoose (p : Planner) (s : ℕ) : Type 0 where
   pub sound : Sound p
@@ -75,7 +63,20 @@ pub record IsChosen (h : Content) (s : ℕ) (chosen : Chosen) : Type 0 where
   pub ids : take (chosen .n) (chosen .ids) ≡ ids-at h s
   pub few : chosen .n ≤ h .slots
 
+-- The row of an id's stream in the table, and its place in the queue.
+pub record IsFoundAt (table : Table) (queue : Queue) (id row place : ℕ) : Type 0 where
+  pub some : 1 ≤ id
+  pub in-table : row < table .count
+  pub row-id : stream-at table row .number ≡ id
+  pub in-queue : place < 64
+  pub place-id : id-at queue place ≡ id
+
+-- Each id chosen stands beside its row and its place.
+abbrev pub AreFound : Table → Queue → Chosen → Type 0
+AreFound table queue chosen = (k : ℕ) → k < chosen .n → IsFoundAt table queue (getD (chosen .ids) k 0) (getD (chosen .rows) k 0) (getD (chosen .places) k 0)
+
 pub record CanServeAll (p : Planner) (s : ℕ) (chosen : Chosen) : Type 0 where
   pub can-choose : CanChoose p s
   pub by-last : s ≤ 1_000_000_000
   pub is-chosen : IsChosen (content p) s chosen
+  pub are-found : AreFound (p .table) (p .queue) chosen

@@ -11,7 +11,7 @@ use Rattle.planner.specs.Sound.{Sound}
 use Rattle.planner.specs.Calls.{unsound, IsSoundWith}
 use Rattle.planner.specs.Round.{no-stream-held, short-buffer, late-start, round-refusals, rounded, IsRound}
 use Rattle.planner.specs.CallFacts.{starts-late-iff, held-is-sound, held-is-not-late}
-use Rattle.planner.specs.Inner.{CanChoose, CanServeAll, IsChosen, IsSoundStart}
+use Rattle.planner.specs.Inner.{CanChoose, CanServeAll, IsChosen, AreFound, IsSoundStart}
 use Rattle.planner.specs.declared.Planner.{Planner}
 use Rattle.planner.specs.declared.slots.Chosen.{Chosen}
 
@@ -82,9 +82,9 @@ module _ (p : Planner) (start : ℕ) (test : IsSoundStart p start) where
       pub buffer-long : p .slots ≤ length buffer
       buffer-long = above (length buffer) (p .slots) (after-16 .0)
 
-      module _ (chosen : Chosen) (is-chosen : IsChosen (content p) start chosen) where
+      module _ (chosen : Chosen) (is-chosen : IsChosen (content p) start chosen × AreFound (p .table) (p .queue) chosen) where
         pub can-serve-all : CanServeAll p start chosen
-        can-serve-all = record { can-choose = can-choose; by-last = early; is-chosen = is-chosen }
+        can-serve-all = record { can-choose = can-choose; by-last = early; is-chosen = is-chosen .0; are-found = is-chosen .1 }
 
         -- the round as it is held
         pub round-held : (after : List ℕ) → after ≡ take (chosen .n) (chosen .ids) ++ drop (chosen .n) buffer → (q : Planner) → IsSoundWith (rounded (content p) start) q
@@ -96,8 +96,8 @@ module _ (p : Planner) (start : ℕ) (test : IsSoundStart p start) where
               held = λ _.
                   record {
                     start = test .start found;
-                    n = is-chosen .n;
-                    buffer = written ∙ ap (λ (ids : List ℕ). ids ++ drop (chosen .n) buffer) (is-chosen .ids);
+                    n = is-chosen .0 .n;
+                    buffer = written ∙ ap (λ (ids : List ℕ). ids ++ drop (chosen .n) buffer) (is-chosen .0 .ids);
                     planner = with-h;
                   };
             }

@@ -1,23 +1,21 @@
 -- A walk of the queue in order finds the slots of a round: of the entries in order, those whose streams are released.
 use mathlib.Core.Path.{_≡_, refl, sym, ap, subst, subst⁻¹, _∙_}
-use mathlib.Core.Logic.{inl, inr, Dec·and, if-pos, if-neg, ∥∥₁-elim}
-use mathlib.Core.List.{List, [], _∷_, _++_, List·Mem, List·Mem-prop, Pairwise·map, Pairwise·filter, pairwise-cons, Perm·mem-iff, map, filter, map-map, map-append, filter-append, filter-eq-self, append-nil, mem-map, mem-map-of-mem, mem-filter, decidableBEx}
+use mathlib.Core.Logic.{Dec·and, if-pos, if-neg, ∥∥₁-elim}
+use mathlib.Core.List.{List, [], _∷_, _++_, List·Mem, List·Mem-prop, Pairwise·map, Pairwise·filter, Perm·mem-iff, map, filter, map-map, map-append, filter-append, append-nil, mem-map, mem-map-of-mem, mem-filter, decidableBEx}
 use mathlib.Mathlib.Data.List.Nodup.{inj-on-of-nodup-map}
 use Prim.Native.Nat.{ℕ, zero, suc, _+_, _≤_, _<_}
 use native.Mathlib.Decide.{decLe, ℕ-discrete}
 use native.Mathlib.Omega.{arith}
 use lib.ListN.{length, take, drop, getD, take-append-drop}
 use lib.Seq.{take-suc, take-all, take-at}
-use Rattle.basics.specs.Members.{getD-mem}
-use Rattle.rules.specs.Streams.{Stream, packet, due, MayRide, IsTable}
+use Rattle.rules.specs.Streams.{Stream, IsTable}
 use Rattle.rules.specs.Demand.{DueAfter}
 use Rattle.rules.specs.Slots.{riders, in-order, slots}
 use Rattle.rules.specs.Equality.{stream-set}
 use Rattle.rules.specs.SlotFacts.{in-order-perm, rider-iff}
 use Rattle.rules.specs.SlotOrder.{line-in-order}
-use Rattle.queue.specs.Order.{Entry, Before, before}
-use Rattle.queue.specs.Entries.{after}
-use Rattle.queue.specs.EntryFacts.{InOrder, before-asym, before-prop, in-order-unique}
+use Rattle.queue.specs.Order.{Entry}
+use Rattle.queue.specs.EntryFacts.{InOrder, before-prop, in-order-unique}
 use Rattle.planner.specs.Sound.{entry-of, Files}
 
 -- The stream of an id is released by s.
@@ -111,23 +109,3 @@ module _ (s : ℕ) (ss : List Stream) where
   all-seen es i b seen few =
       let all : take i es ≡ es = take-all i es seen in
       rw all (take-all b (released-ids s ss es) (rw all at few))
-
--- every entry is after key 0 and id 0
-pub after-none : (es : List Entry) → ((e : Entry) → List·Mem e es → 1 ≤ e .id) → after (record { key = 0; id = 0 }) es ≡ es
-unfolding after
-after-none es some = filter-eq-self (λ (e : Entry). before (record { key = 0; id = 0 }) e) .1 (λ e m. go e (some e m) (decLe 1 (e .key)))
-  where
-    go : (e : Entry) → 1 ≤ e .id → Dec (1 ≤ e .key) → Before (record { key = 0; id = 0 }) e
-    go e id (yes key) = inl key
-    go e id (no none) = inr (omega arith, id)
-
--- the entries after the one at place i are those that stand after it
-pub after-place : (es : List Entry) → InOrder es → (i : ℕ) (d : Entry) → i < length es → after (getD es i d) es ≡ drop (suc i) es
-unfolding after
-after-place (x ∷ xs) ordered zero d within =
-    if-neg (before x x) (λ self. before-asym x x self self) (x ∷ after x xs) (after x xs) ∙ filter-eq-self (λ (e : Entry). before x e) .1 (pairwise-cons .0 ordered .0)
-after-place (x ∷ xs) ordered (suc i) d within =
-    let split = pairwise-cons .0 ordered in
-    let e = getD xs i d in
-    let earlier = split .0 e (getD-mem xs i d (omega arith)) in
-    if-neg (before e x) (λ later. before-asym x e earlier later) (x ∷ after e xs) (after e xs) ∙ after-place xs (split .1) i d (omega arith)

@@ -3,18 +3,20 @@ ghost use mathlib.Core.Path.{_≡_};
 ghost use mathlib.Core.List.{_++_};
 ghost use Prim.Native.Nat.{_≤_};
 ghost use lib.ListN.{length, take, drop};
-ghost use Rattle.table.specs.Table.{streams-of};
 ghost use Rattle.planner.specs.Content.{content};
 ghost use Rattle.planner.specs.Calls.{IsSoundWith};
 ghost use Rattle.planner.specs.Round.{rounded};
-ghost use Rattle.planner.specs.Inner.{CanChoose, CanServeAll, CanVisit, IsChosen, IsVisit};
+ghost use Rattle.planner.specs.Inner.{CanChoose, CanServeAll, IsChosen, AreFound};
 use super::Planner;
+use queue::Queue;
 use table::Stream;
 use table::Table;
 
-// The ids chosen for a round: the first n places.
+// The ids chosen for a round, in the first n places, and beside each its stream's row in the table and its place in the queue.
 pub struct Chosen {
     pub ids: [u16; 64],
+    pub rows: [usize; 64],
+    pub places: [usize; 64],
     pub n: usize,
 }
 
@@ -30,44 +32,45 @@ pub fn write_ids_in_range(buffer: &mut [u16], ids: [u16; 64], n: usize)
     }
 }
 
-// An id met on the walk is taken if its stream is released by the start.
-fn visit_in_range(table: Table, chosen: Chosen, id: u32, start: u32) -> Chosen
-    requires { ⌜ CanVisit table chosen id ⌝ }
-    ensures { λ r. ⌜ IsVisit start (streams-of table) chosen id r ⌝ }
+fn wide(id: u16) -> u32
+    ensures { λ r. ⌜ r ≡ id ⌝ }
 {
-    let stream = table::find_in_range(table, id);
-    if start < stream.release {
-        return chosen;
-    }
-    let n = chosen.n;
-    let mut ids = chosen.ids;
-    ids[n] = id as u16;
-    Chosen { ids, n: n + 1 }
+    id as u32
 }
 
-// The slots of a round at the start: the queue is walked in order, until the slots are full or all entries have been met.
+// The slots of a round at the start: entries are met in the queue's order, until the slots are full or all have been met.
 pub fn choose_sound(p: Planner, start: u32) -> Chosen
     requires { ⌜ CanChoose p start ⌝ }
-    ensures { λ r. ⌜ IsChosen (content p) start r ⌝ }
+    ensures { λ r. ⌜ IsChosen (content p) start r × AreFound (p .table) (p .queue) r ⌝ }
 {
     let queue = p.queue;
     let table = p.table;
+    let streams = table.streams;
     let slots = p.slots as usize;
+    let order = queue::places_in_order_sound(queue, table.count);
+    let ids = table::ids_in_range(table);
     let mut chosen = Chosen {
         ids: [0u16; 64],
+        rows: [0usize; 64],
+        places: [0usize; 64],
         n: 0,
     };
-    let mut key: u32 = 0;
-    let mut id: u32 = 0;
     let mut i: usize = 0;
     while i < table.count {
-        if chosen.n == slots {
+        let n = chosen.n;
+        if n == slots {
             return chosen;
         }
-        let found = queue::next_sound(queue, key, id);
-        chosen = visit_in_range(table, chosen, found.id, start);
-        key = found.key;
-        id = found.id;
+        let place = order[i];
+        let id = queue.ids[place];
+        let row = basics::place_among(&ids, wide(id));
+        let stream = streams[row];
+        if stream.release <= start {
+            chosen.ids[n] = id;
+            chosen.rows[n] = row;
+            chosen.places[n] = place;
+            chosen.n = n + 1;
+        }
         i += 1;
     }
     chosen
@@ -78,17 +81,40 @@ pub fn serve_sound(p: Planner, chosen: Chosen, start: u32) -> Planner
     requires { ⌜ CanServeAll p start chosen ⌝ }
     ensures { λ r. ⌜ IsSoundWith (rounded (content p) start) r ⌝ }
 {
-    let ids = chosen.ids;
-    let mut table = p.table;
-    let mut queue = p.queue;
+    let rows = chosen.rows;
+    let places = chosen.places;
+    let before = p.table;
+    let filed = p.queue;
+    let mut streams = before.streams;
+    let mut ids = filed.ids;
+    let mut keys = filed.keys;
+    let mut next = filed.next;
+    let mut prev = filed.prev;
     let mut k: usize = 0;
     while k < chosen.n {
-        let id = ids[k] as u32;
-        let stream = table::find_in_range(table, id);
-        table = table::serve_in_range(table, id);
-        queue = queue::move_sound(queue, id, stream.period);
+        let row = rows[k];
+        let stream = streams[row];
+        streams[row] = table::at_next_packet_in_range(stream);
+        queue::move_at_sound(
+            &mut ids,
+            &mut keys,
+            &mut next,
+            &mut prev,
+            places[k],
+            stream.period,
+        );
         k += 1;
     }
+    let table = Table {
+        count: before.count,
+        streams,
+    };
+    let queue = Queue {
+        ids,
+        keys,
+        next,
+        prev,
+    };
     Planner {
         slots: p.slots,
         frame: p.frame,

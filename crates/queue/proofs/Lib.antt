@@ -1,3 +1,3 @@
 -- Laws that the proofs of several functions cite.
-mod Shape
+pub mod Shape
 mod Refused

@@ -6,9 +6,16 @@ use lib.ListN.{length, getD, set}
 use Rattle.basics.specs.Places.{Rises}
 use Rattle.queue.specs.Order.{Entry, Before}
 use Rattle.queue.specs.Entries.{Filed, InBounds}
-use Rattle.queue.specs.Calls.{inserted, moved}
+use Rattle.queue.specs.Calls.{inserted, moved, HasEntries}
 use Rattle.queue.specs.Layout.{id-at, key-at, prev-at, next-at, entry-at, Holds, IsNode, bucket-of, low, high, entries, Sound}
 use Rattle.queue.specs.declared.Queue.{Queue}
+
+-- The arrays are as long as their types say.
+pub record HasShape (q : Queue) : Type 0 where
+  pub ids : length (q .ids) ≡ 64
+  pub keys : length (q .keys) ≡ 64
+  pub next : length (q .next) ≡ 544
+  pub prev : length (q .prev) ≡ 544
 
 -- i is the place of an id among the 64, or 64 where no place has it.
 pub record IsPlaceOf (ids : List ℕ) (id i : ℕ) : Type 0 where
@@ -83,6 +90,18 @@ pub record CanMove (q : Queue) (id amount : ℕ) : Type 0 where
   pub filed : Filed id (entries q)
   pub bounds : InBounds (moved id amount (entries q))
 
+-- The same for the id at a place that holds one.
+pub record CanMoveAt (q : Queue) (x amount : ℕ) : Type 0 where
+  pub shape : HasShape q
+  pub holds : Holds q x
+  pub can : CanMove q (id-at q x) amount
+
+-- The amount is added to the key of the id at place x, and every id stays at its place.
+pub record IsMovedAt (q : Queue) (x amount : ℕ) (r : Queue) : Type 0 where
+  pub shape : HasShape r
+  pub has-entries : HasEntries r (moved (id-at q x) amount (entries q))
+  pub places : r .ids ≡ q .ids
+
 -- Every entry after a pair has its key among the 480 from a given key on.
 abbrev pub SearchFrom : Queue → ℕ → Entry → Type 0
 SearchFrom q from pair = (i : ℕ) → Holds q i → Before pair (entry-at q i) → (from ≤ key-at q i) × (key-at q i ≤ from + 479)
@@ -93,6 +112,24 @@ pub record IsFirstAfter (q : Queue) (pair : Entry) (x : ℕ) : Type 0 where
   pub found : x < 64 → Holds q x × Before pair (entry-at q x)
   pub first : x < 64 → (i : ℕ) → Holds q i → Before pair (entry-at q i) → Before (entry-at q i) (entry-at q x) → ⊥
   pub none : x ≡ 64 → (i : ℕ) → Holds q i → Before pair (entry-at q i) → ⊥
+
+-- A node in the bucket of a key that some entry has.
+pub record StandsAt (q : Queue) (key n : ℕ) : Type 0 where
+  pub node : IsNode (id-at q) n
+  pub in-bucket : bucket-of (key-at q) n ≡ key % 480
+  pub held : ∥ ((j : ℕ) × Holds q j × (key-at q j ≡ key)) ∥₁
+
+-- The pair that a node stands for: an entry's own, or one before all entries of the bucket.
+abbrev pub pair-at : Queue → ℕ → ℕ → Entry
+pair-at q key n = record { key = key; id = low (id-at q) n }
+
+-- x is the place of the first entry after a node, in every sound queue with these keys and links.
+abbrev pub IsFollowing : (keys next : List ℕ) → ℕ → ℕ → ℕ → Type 0
+IsFollowing keys next key n x = (q : Queue) → q .keys ≡ keys → q .next ≡ next → Sound q → StandsAt q key n → IsFirstAfter q (pair-at q key n) x
+
+-- The first places hold the first n entries, in order.
+abbrev pub IsInOrder : Queue → ℕ → List ℕ → Type 0
+IsInOrder q n places = (k : ℕ) → k < n → (getD places k 0 < 64) × (entry-at q (getD places k 0) ≡ getD (entries q) k (record { key = 0; id = 0 }))
 
 -- n pairs of key and id that a sound queue can file, in ascending id, with larger numbers behind them.
 pub record CanFile (ids keys : List ℕ) (n : ℕ) : Type 0 where

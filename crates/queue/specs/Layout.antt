@@ -14,6 +14,8 @@ pub mod First
 pub mod Heads
 pub mod Filing
 pub mod FilingSound
+pub mod Following
+pub mod InOrder
 pub mod Laws
 use mathlib.Core.Path.{_≡_}
 use mathlib.Core.Logic.{_⊎_, ite}
@@ -24,6 +26,10 @@ use lib.ListN.{getD}
 use Rattle.queue.specs.Order.{Entry}
 use Rattle.queue.specs.Entries.{put}
 use Rattle.queue.specs.declared.Queue.{Queue}
+
+-- A queue of these ids, keys and links.
+abbrev pub queue-of : (ids keys next prev : List ℕ) → Queue
+queue-of ids keys next prev = record { ids = ids; keys = keys; next = next; prev = prev }
 
 -- The id and the key at a place, and the links of a node.
 abbrev pub id-at : Queue → ℕ → ℕ

@@ -2,9 +2,8 @@
 ghost use mathlib.Core.Path.{_≡_};
 ghost use Prim.Native.Nat.{_+_, _%_, _<_, _≤_};
 ghost use lib.ListN.{getD};
-ghost use Rattle.queue.specs.Layout.{Sound};
+ghost use Rattle.queue.specs.Layout.{queue-of, Sound};
 ghost use Rattle.queue.specs.Inner.{IsPlaceOf, CanPut, put-before, CanTake, taken-out, IsPosition, IsNew};
-use super::Queue;
 
 pub fn wide(x: u16) -> u32
     ensures { λ r. ⌜ r ≡ x ⌝ }
@@ -34,39 +33,50 @@ pub fn head_of(key: u32) -> usize
 }
 
 // The entry at a free place x, put before the node n.
-pub fn put_before(q: Queue, x: usize, id: u16, key: u32, n: usize) -> Queue
-    requires { ⌜ CanPut q x n ⌝ }
-    ensures { λ r. ⌜ r ≡ put-before q x id key n ⌝ }
+pub fn put_before<'a>(
+    ids: &'a mut [u16; 64],
+    keys: &'a mut [u32; 64],
+    next: &'a mut [u16; 544],
+    prev: &'a mut [u16; 544],
+    x: usize,
+    id: u16,
+    key: u32,
+    n: usize,
+)
+    requires { ⌜ CanPut (queue-of (now ids) (now keys) (now next) (now prev)) x n ⌝ }
+    ensures { λ _. ⌜ queue-of (now (ids .exit)) (now (keys .exit)) (now (next .exit)) (now (prev .exit)) ≡ put-before (queue-of (now (ids .entry)) (now (keys .entry)) (now (next .entry)) (now (prev .entry))) x id key n ⌝ }
 {
-    let mut r = q;
-    let p = r.prev[n];
+    let p = prev[n];
     let before = p as usize;
-    r.ids[x] = id;
-    r.keys[x] = key;
-    r.next[before] = x as u16;
-    r.next[x] = n as u16;
-    r.prev[n] = x as u16;
-    r.prev[x] = p;
-    r
+    ids[x] = id;
+    keys[x] = key;
+    next[before] = x as u16;
+    next[x] = n as u16;
+    prev[n] = x as u16;
+    prev[x] = p;
 }
 
 // The entry at a place x, taken out; the free place is all zeros.
-pub fn take_out(q: Queue, x: usize) -> Queue
-    requires { ⌜ CanTake q x ⌝ }
-    ensures { λ r. ⌜ r ≡ taken-out q x ⌝ }
+pub fn take_out<'a>(
+    ids: &'a mut [u16; 64],
+    keys: &'a mut [u32; 64],
+    next: &'a mut [u16; 544],
+    prev: &'a mut [u16; 544],
+    x: usize,
+)
+    requires { ⌜ CanTake (queue-of (now ids) (now keys) (now next) (now prev)) x ⌝ }
+    ensures { λ _. ⌜ queue-of (now (ids .exit)) (now (keys .exit)) (now (next .exit)) (now (prev .exit)) ≡ taken-out (queue-of (now (ids .entry)) (now (keys .entry)) (now (next .entry)) (now (prev .entry))) x ⌝ }
 {
-    let mut r = q;
-    let p = r.prev[x];
-    let n = r.next[x];
+    let p = prev[x];
+    let n = next[x];
     let before = p as usize;
     let after = n as usize;
-    r.ids[x] = 0;
-    r.keys[x] = 0;
-    r.next[before] = n;
-    r.prev[after] = p;
-    r.next[x] = 0;
-    r.prev[x] = 0;
-    r
+    ids[x] = 0;
+    keys[x] = 0;
+    next[before] = n;
+    prev[after] = p;
+    next[x] = 0;
+    prev[x] = 0;
 }
 
 fn node_of(link: u16) -> usize
@@ -83,17 +93,23 @@ pub fn node_at(links: &[u16; 544], x: usize) -> usize
 }
 
 // Walks the bucket of a key to the first node past the id; ids rise, so the walk ends.
-pub fn position_sound(q: Queue, key: u32, id: u32) -> usize
-    requires { ⌜ Sound q × IsNew q id ⌝ }
-    ensures { λ r. ⌜ IsPosition q key id r ⌝ }
+pub fn position_sound<'a>(
+    ids: &'a [u16; 64],
+    keys: &'a [u32; 64],
+    next: &'a [u16; 544],
+    prev: &'a [u16; 544],
+    key: u32,
+    id: u32,
+) -> usize
+    requires { ⌜ Sound (queue-of (now ids) (now keys) (now next) (now prev)) × IsNew (queue-of (now ids) (now keys) (now next) (now prev)) id ⌝ }
+    ensures { λ r. ⌜ IsPosition (queue-of (now (ids .entry)) (now (keys .entry)) (now (next .entry)) (now (prev .entry))) key id r ⌝ }
 {
-    let mut n = node_at(&q.next, head_of(key));
+    let mut n = node_at(next, head_of(key));
     while n < 64 {
-        let there = q.ids[n];
-        if id < wide(there) {
+        if id < wide(ids[n]) {
             return n;
         }
-        n = node_at(&q.next, n);
+        n = node_at(next, n);
     }
     n
 }

@@ -27,7 +27,7 @@ fn is_after(key: u32, id: u32, than_key: u32, than_id: u32) -> bool
 }
 
 // The bucket after a bucket, round the circle.
-fn bucket_after(bucket: usize) -> usize
+pub fn bucket_after(bucket: usize) -> usize
     requires { ⌜ bucket < 480 ⌝ }
     ensures { λ r. ⌜ r ≡ (bucket + 1) % 480 ⌝ }
 {

@@ -3,14 +3,15 @@ ghost use mathlib.Core.Path.{_≡_};
 ghost use Prim.Native.Nat.{_+_, _<_, _≤_};
 ghost use Rattle.basics.specs.Decides.{Decides};
 ghost use Rattle.queue.specs.Entries.{without};
-ghost use Rattle.queue.specs.Layout.{entries};
+ghost use Rattle.queue.specs.Layout.{queue-of, entries};
 ghost use Rattle.queue.specs.Calls.{inserted, moved, HasEntries};
-ghost use Rattle.queue.specs.Inner.{PlaceFits, KeyFits, CanInsert, CanDelete, CanMove};
+ghost use Rattle.queue.specs.Inner.{PlaceFits, KeyFits, CanInsert, CanDelete, CanMove, CanMoveAt, IsMovedAt};
 use super::Queue;
 use super::links::place_of;
 use super::links::position_sound;
 use super::links::put_before;
 use super::links::take_out;
+use super::links::wide as id_of;
 
 fn wide(key: u32) -> u64
     ensures { λ r. ⌜ r ≡ key ⌝ }
@@ -71,9 +72,28 @@ pub fn insert_sound(q: Queue, id: u32, key: u32) -> Queue
     requires { ⌜ CanInsert q id key ⌝ }
     ensures { λ r. ⌜ HasEntries r (inserted id key (entries q)) ⌝ }
 {
-    let x = place_of(&q.ids, 0);
-    let n = position_sound(q, key, id);
-    put_before(q, x, id as u16, key, n)
+    let mut ids = q.ids;
+    let mut keys = q.keys;
+    let mut next = q.next;
+    let mut prev = q.prev;
+    let x = place_of(&ids, 0);
+    let n = position_sound(&ids, &keys, &next, &prev, key, id);
+    put_before(
+        &mut ids,
+        &mut keys,
+        &mut next,
+        &mut prev,
+        x,
+        id as u16,
+        key,
+        n,
+    );
+    Queue {
+        ids,
+        keys,
+        next,
+        prev,
+    }
 }
 
 // Takes an id out.
@@ -81,8 +101,37 @@ pub fn delete_sound(q: Queue, id: u32) -> Queue
     requires { ⌜ CanDelete q id ⌝ }
     ensures { λ r. ⌜ HasEntries r (without id (entries q)) ⌝ }
 {
-    let x = place_of(&q.ids, id);
-    take_out(q, x)
+    let mut ids = q.ids;
+    let mut keys = q.keys;
+    let mut next = q.next;
+    let mut prev = q.prev;
+    let x = place_of(&ids, id);
+    take_out(&mut ids, &mut keys, &mut next, &mut prev, x);
+    Queue {
+        ids,
+        keys,
+        next,
+        prev,
+    }
+}
+
+// Adds an amount to the key of the id at place x: it stays at its place, and its links go to the bucket of the larger key.
+pub fn move_at_sound<'a>(
+    ids: &'a mut [u16; 64],
+    keys: &'a mut [u32; 64],
+    next: &'a mut [u16; 544],
+    prev: &'a mut [u16; 544],
+    x: usize,
+    amount: u32,
+)
+    requires { ⌜ CanMoveAt (queue-of (now ids) (now keys) (now next) (now prev)) x amount ⌝ }
+    ensures { λ _. ⌜ IsMovedAt (queue-of (now (ids .entry)) (now (keys .entry)) (now (next .entry)) (now (prev .entry))) x amount (queue-of (now (ids .exit)) (now (keys .exit)) (now (next .exit)) (now (prev .exit))) ⌝ }
+{
+    let id = ids[x];
+    let key = keys[x] + amount;
+    take_out(ids, keys, next, prev, x);
+    let n = position_sound(ids, keys, next, prev, key, id_of(id));
+    put_before(ids, keys, next, prev, x, id, key, n);
 }
 
 // Adds an amount to the key of an id.
@@ -90,8 +139,16 @@ pub fn move_sound(q: Queue, id: u32, amount: u32) -> Queue
     requires { ⌜ CanMove q id amount ⌝ }
     ensures { λ r. ⌜ HasEntries r (moved id amount (entries q)) ⌝ }
 {
-    let x = place_of(&q.ids, id);
-    let key = q.keys[x];
-    let rest = take_out(q, x);
-    insert_sound(rest, id, key + amount)
+    let mut ids = q.ids;
+    let mut keys = q.keys;
+    let mut next = q.next;
+    let mut prev = q.prev;
+    let x = place_of(&ids, id);
+    move_at_sound(&mut ids, &mut keys, &mut next, &mut prev, x, amount);
+    Queue {
+        ids,
+        keys,
+        next,
+        prev,
+    }
 }

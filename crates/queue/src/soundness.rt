@@ -10,7 +10,7 @@ ghost use Rattle.queue.specs.Layout.SoundnessFacts.{at, Below, KeyWithin
 // The largest key that may be filed.
 const KEY_LIMIT: u32 = 2_000_000_000;
 
-fn residue(key: u32) -> usize
+pub fn residue(key: u32) -> usize
     ensures { λ r. ⌜ r ≡ key % 480 ⌝ }
 {
     (key % 480) as usize

@@ -14,7 +14,7 @@ use Rattle.rules.specs.Streams.{Stream}
 use Rattle.rules.specs.Slots.{next}
 use Rattle.table.specs.Table.{stream-of, streams-of, stream-at, no-stream}
 use Rattle.table.specs.TableFacts.{Rows, all-rows}
-use Rattle.table.specs.Changes.{HasId, HasStreams, IsPlaceOf, CanChange, put-by-id, without-id, serve, Ascending}
+use Rattle.table.specs.Changes.{HasId, HasStreams, IsPlaceOf, CanChange, put-by-id, without-id, serve, sent, Ascending}
 use Rattle.table.specs.Places.{opened, closed, IsPlaceBefore}
 use Rattle.table.specs.declared.Stream
 use Rattle.table.specs.declared.Table.{Table}
@@ -63,10 +63,7 @@ serve-at id (x ∷ xs) ascending (suc k) within here =
     ap (λ (y : Stream). y ∷ serve id xs) (if-neg (ℕ-discrete (x .number) id) (earlier-differs x xs ascending k id (omega arith) here) (next x) x)
     ∙ ap (λ (r : List Stream). x ∷ r) (serve-at id xs (pairwise-cons .0 ascending .1) k (omega arith) here)
 
--- a row with its packet sent, and a list of rows with one written
-abbrev pub sent : Rattle.table.specs.declared.Stream.Stream → Rattle.table.specs.declared.Stream.Stream
-sent s = record { id = s .id; period = s .period; deadline = s .deadline; release = s .release + s .period }
-
+-- a list of rows with one written
 map-set : (rows : Rows) (k : ℕ) (x : Rattle.table.specs.declared.Stream.Stream) → map stream-of (set rows k x) ≡ set (map stream-of rows) k (stream-of x)
 map-set [] k x = refl
 map-set (y ∷ ys) zero x = refl

@@ -7,6 +7,7 @@ use native.Mathlib.Decide.{decLt, ℕ-discrete}
 use Rattle.rules.specs.Streams.{Stream}
 use Rattle.rules.specs.Slots.{next}
 use Rattle.table.specs.Table.{streams-of, stream-at}
+use Rattle.table.specs.declared.Stream
 use Rattle.table.specs.declared.Table.{Table}
 
 -- A stream of the table has the id.
@@ -32,6 +33,10 @@ stepped id s = ite (ℕ-discrete (s .number) id) (next s) s
 -- The table with the stream of an id at its next packet.
 unfoldable pub serve : ℕ → List Stream → List Stream
 serve id ss = map (stepped id) ss
+
+-- A stream of the code at its next packet: released a period later.
+abbrev pub sent : Rattle.table.specs.declared.Stream.Stream → Rattle.table.specs.declared.Stream.Stream
+sent s = record { id = s .id; period = s .period; deadline = s .deadline; release = s .release + s .period }
 
 -- Ids rise along the table.
 abbrev pub Ascending : List Stream → Type 0
@@ -63,8 +68,3 @@ pub record CanChange (table : Table) (id : ℕ) : Type 0 where
   pub count : table .count ≤ 64
   pub ascending : Ascending (streams-of table)
   pub held : HasId id (streams-of table)
-
--- What serving relies on: the same, and that the next release fits a number.
-pub record CanServe (table : Table) (id : ℕ) : Type 0 where
-  pub can-change : CanChange table id
-  pub near : (s : Stream) → List·Mem s (streams-of table) → (s .release ≤ 2_000_000_000) × (s .period ≤ 240)

@@ -1,9 +1,9 @@
 -- The ids of a table are written place by place; they rise over all 64 places, and halving finds each at its stream's place.
-use mathlib.Core.Path.{_≡_, refl, _∙_}
+use mathlib.Core.Path.{_≡_, refl, ap, subst⁻¹, _∙_}
 use mathlib.Core.List.{List, List·Mem}
 use Prim.Native.Nat.{ℕ, _+_, _≤_, _<_}
 use native.Mathlib.Nat.{lt-irrefl}
-use native.Mathlib.Decide.{decLt}
+use native.Mathlib.Decide.{decLt, ℕ-discrete}
 use native.Mathlib.Omega.{arith}
 use lib.ListN.{getD, length, set, length-set, replicate, getD-replicate}
 use lib.Seq.{getD-set-other}
@@ -13,7 +13,8 @@ use Rattle.basics.specs.PlaceFacts.{place-found}
 use Rattle.rules.specs.Streams.{Stream}
 use Rattle.table.specs.Table.{streams-of, stream-at}
 use Rattle.table.specs.TableFacts.{Rows, row-at, one-place-more, stream-at-mem, ascending-at}
-use Rattle.table.specs.Changes.{Ascending}
+use Rattle.table.specs.Changes.{HasId, Ascending}
+use Rattle.table.specs.ChangeFacts.{absent-by-place}
 use Rattle.table.specs.Ids.{IsIds}
 use Rattle.table.specs.declared.Table.{Table}
 
@@ -52,3 +53,16 @@ module _ (table : Table) (few : table .count ≤ 64) (within : table .count ≤ 
   -- an id is found at its stream's place
   pub id-found : (k r : ℕ) → k < table .count → IsPlaceAmong ids (stream-at table k .number) r → r ≡ k
   id-found k r below place = place-found (table .count) k few ids-ascend below (is-ids .ids k below) place
+
+  -- so the place of an id that is held is one of the table's
+  pub id-row : (id r : ℕ) → HasId id (streams-of table) → IsPlaceAmong ids id r → (r < table .count) × (stream-at table r .number ≡ id)
+  id-row id r held place = go (decLt r (table .count)) (ℕ-discrete (stream-at table r .number) id)
+    where
+      other : ((k : ℕ) → k < table .count → r ≡ k → stream-at table k .number ≡ id → ⊥) → (r < table .count) × (stream-at table r .number ≡ id)
+      other differ =
+          absurd (absent-by-place table id (λ k below has. differ k below (id-found k r below (subst⁻¹ (λ (n : ℕ). IsPlaceAmong ids n r) has place)) has) held)
+
+      go : Dec (r < table .count) → Dec (stream-at table r .number ≡ id) → (r < table .count) × (stream-at table r .number ≡ id)
+      go (yes below) (yes has) = (below, has)
+      go (yes below) (no not-it) = other (λ k _ same has. not-it (ap (λ (j : ℕ). stream-at table j .number) same ∙ has))
+      go (no outside) has-it = other (λ k below same has. outside (omega (arith, same)))

@@ -7,7 +7,7 @@ use Rattle.rules.specs.Streams.{Stream, due}
 use Rattle.table.specs.declared.Stream
 use Rattle.table.specs.declared.Table.{Table}
 use Rattle.table.specs.declared.Column.{Column}
-use Rattle.table.specs.declared.Column.the-variants.{Id, Period, Deadline, Due}
+use Rattle.table.specs.declared.Column.the-variants.{Period, Deadline, Due}
 
 -- A stream of the table as the rules see it: its number is its id.
 abbrev pub stream-of : Rattle.table.specs.declared.Stream.Stream → Stream
@@ -27,7 +27,6 @@ stream-at t k = stream-of (getD (t .streams) k no-stream)
 
 -- What a column of the table has of a stream.
 abbrev pub value-of : Column → Stream → ℕ
-value-of Id s = s .number
 value-of Period s = s .period
 value-of Deadline s = s .deadline
 value-of Due s = due s

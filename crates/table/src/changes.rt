@@ -1,7 +1,8 @@
 // The table's changes: a stream put in, one taken out, and one served.
+ghost use mathlib.Core.Path.{_≡_};
 ghost use Prim.Native.Nat.{_≤_};
 ghost use Rattle.table.specs.Table.{streams-of, stream-of};
-ghost use Rattle.table.specs.Changes.{IsPlaceOf, IsStreamOf, HasStreams, CanPut, CanChange, CanServe, put-by-id, without-id, serve};
+ghost use Rattle.table.specs.Changes.{IsPlaceOf, HasStreams, CanPut, CanChange, put-by-id, without-id, sent};
 ghost use Rattle.table.specs.Places.{IsPlaceBefore, CanOpen, opened, CanClose, closed};
 use super::Stream;
 use super::Table;
@@ -21,16 +22,6 @@ pub fn place_of_in_range(table: Table, id: u32) -> usize
         i += 1;
     }
     table.count
-}
-
-// The stream of an id.
-pub fn find_in_range(table: Table, id: u32) -> Stream
-    requires { ⌜ CanChange table id ⌝ }
-    ensures { λ r. ⌜ IsStreamOf (streams-of table) id (stream-of r) ⌝ }
-{
-    let place = place_of_in_range(table, id);
-    let streams = table.streams;
-    streams[place]
 }
 
 // The place falls free and the later streams move one place down.
@@ -112,22 +103,15 @@ pub fn put_in_range(table: Table, stream: Stream) -> Table
     opened_in_range(table, place, stream)
 }
 
-// The stream of an id at its next packet.
-pub fn serve_in_range(table: Table, id: u32) -> Table
-    requires { ⌜ CanServe table id ⌝ }
-    ensures { λ r. ⌜ HasStreams (serve id (streams-of table)) r ⌝ }
+// A stream at its next packet.
+pub fn at_next_packet_in_range(stream: Stream) -> Stream
+    requires { ⌜ (stream .release ≤ 2_000_000_000) × (stream .period ≤ 240) ⌝ }
+    ensures { λ r. ⌜ r ≡ sent stream ⌝ }
 {
-    let place = place_of_in_range(table, id);
-    let mut streams = table.streams;
-    let stream = streams[place];
-    streams[place] = Stream {
+    Stream {
         id: stream.id,
         period: stream.period,
         deadline: stream.deadline,
         release: stream.release + stream.period,
-    };
-    Table {
-        count: table.count,
-        streams,
     }
 }

@@ -4,10 +4,9 @@ ghost use mathlib.Core.Path.{_≡_};
 ghost use Prim.Native.Nat.{_≤_};
 ghost use Rattle.table.specs.Ids.{IsIds};
 ghost use Rattle.table.specs.Table.{CanRead, IsColumn, stream-of, value-of};
-pub use changes::find_in_range;
+pub use changes::at_next_packet_in_range;
 pub use changes::place_of_in_range;
 pub use changes::put_in_range;
-pub use changes::serve_in_range;
 pub use changes::take_out_in_range;
 pub use lengths::busy_length_in_range;
 pub use range::in_range;
@@ -37,7 +36,6 @@ pub struct Table {
 
 // What a column of numbers is made of.
 pub enum Column {
-    Id,
     Period,
     Deadline,
     Due,
@@ -49,7 +47,6 @@ fn value_in_range(stream: Stream, column: Column) -> u32
     ensures { λ r. ⌜ r ≡ value-of column (stream-of stream) ⌝ }
 {
     match column {
-        Column::Id => stream.id,
         Column::Period => stream.period,
         Column::Deadline => stream.deadline,
         Column::Due => stream.release + stream.deadline,

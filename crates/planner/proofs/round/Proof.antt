@@ -23,13 +23,13 @@ write-ids-in-range-requires : tie.Need-write-ids-in-range-requires
 write-ids-in-range-requires c κs =
     let can = can-choose (c .before .before .before .before .before .before .before .args .p) (c .before .before .before .before .before .sound-start .result) (c .before .before .before .before .before .sound-start .ensures) (now (c .before .before .before .before .before .before .before .args .buffer)) (c .before .before .before .before .round-refusal-tested .result) (c .before .before .before .before .round-refusal-tested .ensures (now (c .before .before .before .before .before .before .before .args .buffer)) refl) (c .before .before .before .if1 .left) in
     let long = buffer-long (c .before .before .before .before .before .before .before .args .p) (c .before .before .before .before .before .sound-start .result) (c .before .before .before .before .before .sound-start .ensures) (now (c .before .before .before .before .before .before .before .args .buffer)) (c .before .before .before .before .round-refusal-tested .result) (c .before .before .before .before .round-refusal-tested .ensures (now (c .before .before .before .before .before .before .before .args .buffer)) refl) (c .before .before .before .if1 .left) in
-    (omega (arith, c .before .before .choose-sound .ensures .few, can .sound .content-sound .in-range .slots), omega (arith, c .before .before .choose-sound .ensures .few, long))
+    (omega (arith, c .before .before .choose-sound .ensures .0 .few, can .sound .content-sound .in-range .slots), omega (arith, c .before .before .choose-sound .ensures .0 .few, long))
 
 serve-sound-requires : tie.Need-serve-sound-requires
 serve-sound-requires c κs = can-serve-all (c .before .before .before .before .before .before .before .before .before .before .args .p) (c .before .before .before .before .before .before .before .before .sound-start .result) (c .before .before .before .before .before .before .before .before .sound-start .ensures) (now (c .before .before .before .before .before .before .before .before .before .before .args .buffer)) (c .before .before .before .before .before .before .before .round-refusal-tested .result) (c .before .before .before .before .before .before .before .round-refusal-tested .ensures (now (c .before .before .before .before .before .before .before .before .before .before .args .buffer)) refl) (c .before .before .before .before .before .before .if1 .left) _ (c .before .before .before .before .before .choose-sound .ensures)
 
 cast-t13 : tie.Need-cast-t13
-cast-t13 c = let can = can-choose (c .before .before .before .before .before .before .before .before .before .before .before .before .args .p) (c .before .before .before .before .before .before .before .before .before .before .sound-start .result) (c .before .before .before .before .before .before .before .before .before .before .sound-start .ensures) (now (c .before .before .before .before .before .before .before .before .before .before .before .before .args .buffer)) (c .before .before .before .before .before .before .before .before .before .round-refusal-tested .result) (c .before .before .before .before .before .before .before .before .before .round-refusal-tested .ensures (now (c .before .before .before .before .before .before .before .before .before .before .before .before .args .buffer)) refl) (c .before .before .before .before .before .before .before .before .if1 .left) in omega (arith, c .before .before .before .before .before .before .before .choose-sound .ensures .few, can .sound .content-sound .in-range .slots)
+cast-t13 c = let can = can-choose (c .before .before .before .before .before .before .before .before .before .before .before .before .args .p) (c .before .before .before .before .before .before .before .before .before .before .sound-start .result) (c .before .before .before .before .before .before .before .before .before .before .sound-start .ensures) (now (c .before .before .before .before .before .before .before .before .before .before .before .before .args .buffer)) (c .before .before .before .before .before .before .before .before .before .round-refusal-tested .result) (c .before .before .before .before .before .before .before .before .before .round-refusal-tested .ensures (now (c .before .before .before .before .before .before .before .before .before .before .before .before .args .buffer)) refl) (c .before .before .before .before .before .before .before .before .if1 .left) in omega (arith, c .before .before .before .before .before .before .before .choose-sound .ensures .0 .few, can .sound .content-sound .in-range .slots)
 
 same-length : tie.Need-same-length
 same-length c = search needs

@@ -42,7 +42,7 @@ module _ (q : Queue) (sound : Sound q) (from : ℕ) (pair : Entry) (start : Sear
   bucket-below found bucket left at = rw (at .is-bucket) (mod-lt (from + (480 - left)) {m = 480} (omega arith))
 
   -- no entry of the bucket lies between a node and the next, so what is ahead of the node and not the node is ahead of the next
-  ahead-of-next : (x i : ℕ) → IsNode (id-at q) x → Holds q i → bucket-of (key-at q) x ≡ key-at q i % 480 → low (id-at q) x < id-at q i → high (id-at q) (next-at q x) ≤ id-at q i
+  pub ahead-of-next : (x i : ℕ) → IsNode (id-at q) x → Holds q i → bucket-of (key-at q) x ≡ key-at q i % 480 → low (id-at q) x < id-at q i → high (id-at q) (next-at q x) ≤ id-at q i
   ahead-of-next x i node holds bucket above = go (decLe (high (id-at q) (next-at q x)) (id-at q i))
     where
       go : Dec (high (id-at q) (next-at q x) ≤ id-at q i) → high (id-at q) (next-at q x) ≤ id-at q i

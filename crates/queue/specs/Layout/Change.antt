@@ -8,15 +8,16 @@ use native.Mathlib.Bridge.{le-prop}
 use native.Mathlib.Nat.{lt-irrefl}
 use native.Mathlib.Decide.{decLt, ℕ-discrete}
 use native.Mathlib.Omega.{arith}
-use lib.Seq.{getD-set-same}
+use lib.ListN.{length, set, length-set}
+use lib.Seq.{getD-set-same, set-getD, set-set}
 use Rattle.queue.specs.Order.{Entry}
-use Rattle.queue.specs.Entries.{put, without, key-of, Filed}
+use Rattle.queue.specs.Entries.{put, without, key-of, Filed, InBounds}
 use Rattle.queue.specs.Layout.{id-at, key-at, next-at, prev-at, Holds, entries, Sound}
 use Rattle.queue.specs.Calls.{inserted, moved, HasEntries}
-use Rattle.queue.specs.Layout.Collected.{entry, of-collected, in-collected, collected-room, collected-full}
+use Rattle.queue.specs.Layout.Collected.{entry, of-collected, in-collected, collected-full}
 use Rattle.queue.specs.EntryFacts.{put-new, entry-set}
-use Rattle.queue.specs.Layout.SoundFacts.{HasShape, put-entries, put-sound, taken-entries, taken-sound, node-below, sound-once}
-use Rattle.queue.specs.Inner.{IsPlaceOf, IsPosition, IsNew, CanPut, put-before, CanTake, taken-out, CanInsert, CanMove}
+use Rattle.queue.specs.Layout.SoundFacts.{put-entries, put-sound, taken-entries, taken-sound, node-below, sound-once}
+use Rattle.queue.specs.Inner.{HasShape, IsPlaceOf, IsPosition, IsNew, CanPut, put-before, CanTake, taken-out, CanInsert, CanMove, CanMoveAt, IsMovedAt}
 use Rattle.queue.specs.declared.Queue.{Queue}
 
 -- an id at a place is filed
@@ -75,21 +76,14 @@ module _ (q : Queue) (id key : ℕ) (can : CanInsert q id key) where
         content = put-entries q (can .sound) shape x id key n inside free (can .some) (can .small) (new .unused) (position .node) (position .bucket) (position .above) (position .below);
       }
 
-module _ (q : Queue) (id x : ℕ) (sound : Sound q) (filed : Filed id (entries q)) (place : IsPlaceOf (q .ids) id x) where
-  at-place : Holds q x × (id-at q x ≡ id)
-  at-place = filed-place q id x filed place
-
+module _ (q : Queue) (x : ℕ) (sound : Sound q) (holds : Holds q x) where
   pub delete-can-take : CanTake q x
   delete-can-take =
-      let l = sound .links x (inl (at-place .0)) in
-      (at-place .0 .0, node-below (id-at q) (next-at q x) (l .next-is-node), node-below (id-at q) (prev-at q x) (l .prev-is-node))
+      let l = sound .links x (inl holds) in
+      (holds .0, node-below (id-at q) (next-at q x) (l .next-is-node), node-below (id-at q) (prev-at q x) (l .prev-is-node))
 
-  pub delete-entries : HasShape q → HasEntries (taken-out q x) (without id (entries q))
-  delete-entries shape =
-      record {
-        sound = taken-sound q sound shape x (at-place .0);
-        content = taken-entries q sound shape x (at-place .0) ∙ ap (λ (n : ℕ). without n (entries q)) (at-place .1);
-      }
+  pub delete-entries : HasShape q → HasEntries (taken-out q x) (without (id-at q x) (entries q))
+  delete-entries shape = record { sound = taken-sound q sound shape x holds; content = taken-entries q sound shape x holds }
 
 -- the key of an id is that of the one entry that has it
 pub key-of-only : (id : ℕ) (es : List Entry) (e : Entry) → List·Mem e es → e .id ≡ id → ((d : Entry) → List·Mem d es → d .id ≡ id → d ≡ e) → key-of id es ≡ e .key
@@ -110,43 +104,91 @@ key-of-place q sound id x there has =
     (λ d m same. ∥∥₁-elim (of-collected (id-at q) (key-at q) 64 d m) (entry-set d (entry (id-at q) (key-at q) x))
     (λ w. w .3 ∙ ap (entry (id-at q) (key-at q)) (sound-once q sound (w .0) x (w .1) (there .0) (w .2) (sym (ap (λ (e : Entry). e .id) (w .3)) ∙ (same ∙ sym has)))))
 
-module _ (q : Queue) (id amount x : ℕ) (can : CanMove q id amount) (place : IsPlaceOf (q .ids) id x) (shape : HasShape q) where
-  holds : Holds q x × (id-at q x ≡ id)
-  holds = filed-place q id x (can .filed) place
+-- what has been found of an id at its place is asked there of a move
+pub move-at : (q : Queue) (id amount x : ℕ) → HasShape q → CanMove q id amount → IsPlaceOf (q .ids) id x → CanMoveAt q x amount
+move-at q id amount x shape can place =
+    let here = filed-place q id x (can .filed) place in
+    record { shape = shape; holds = here .0; can = rw (here .1) can }
 
-  pub move-place : x < 64
-  move-place = holds .0 .0
+module _ (q : Queue) (amount x : ℕ) (can-at : CanMoveAt q x amount) where
+  abbrev shape : HasShape q
+  shape = can-at .shape
 
-  pub move-key : key-of id (entries q) ≡ key-at q x
-  move-key = key-of-place q (can .sound) id x (holds .0) (holds .1)
+  abbrev id : ℕ
+  id = id-at q x
 
-  rest : HasEntries (taken-out q x) (without id (entries q))
-  rest = delete-entries q id x (can .sound) (can .filed) place shape
+  abbrev key : ℕ
+  key = key-at q x + amount
+
+  abbrev left : Queue
+  left = taken-out q x
+
+  sound : Sound q
+  sound = can-at .can .sound
+
+  move-key : key-of id (entries q) ≡ key-at q x
+  move-key = key-of-place q sound id x (can-at .holds) refl
+
+  rest : HasEntries left (without id (entries q))
+  rest = delete-entries q x sound (can-at .holds) shape
 
   pub move-fits : key-at q x + amount ≤ 2_000_000_000
   move-fits =
       rw move-key at
-      (can .bounds .keys (record { key = key-of id (entries q) + amount; id = id }) (put-new (record { key = key-of id (entries q) + amount; id = id }) (without id (entries q))))
+      (can-at .can .bounds .keys (record { key = key-of id (entries q) + amount; id = id }) (put-new (record { key = key-of id (entries q) + amount; id = id }) (without id (entries q))))
 
-  pub move-can-insert : (r : Queue) → r ≡ taken-out q x → CanInsert r id (key-at q x + amount)
+  -- with the id taken out of its place it can be filed there again
+  pub move-new : Sound left × IsNew left id
   unfolding entries without
-  move-can-insert r is =
-      subst⁻¹ (λ (p : Queue). CanInsert p id (key-at q x + amount)) is
-      (record {
-        sound = rest .sound;
-        some = rw (holds .1) at (holds .0 .1);
-        small = rw (holds .1) at (can .sound .ids-in-range x (holds .0));
-        room = collected-room (id-at (taken-out q x)) (key-at (taken-out q x)) 64 x (holds .0 .0) (getD-set-same (q .ids) x 0 0 (omega (arith, shape .ids, holds .0 .0)));
-        new = λ filed. ∥∥₁-elim filed ⊥-prop
-            (λ w. mem-filter (λ (e : Entry). Dec·not (ℕ-discrete (e .id) id)) {l = entries q} .0 (subst (λ (l : List Entry). List·Mem (w .0) l) (rest .content) (w .1)) .1 (w .2));
-        bounds = rw (rest .content, ← move-key) (can .bounds);
-      })
+  move-new = (
+    rest .sound,
+    record {
+      some = can-at .holds .1;
+      small = sound .ids-in-range x (can-at .holds);
+      unused = λ i below same. ∥∥₁-elim (place-filed left i (below, rw same (can-at .holds .1))) ⊥-prop
+          (λ w. mem-filter (λ (e : Entry). Dec·not (ℕ-discrete (e .id) id)) {l = entries q} .0 (subst (λ (l : List Entry). List·Mem (w .0) l) (rest .content) (w .1)) .1 (w .2 ∙ same));
+    },
+  )
 
-  pub move-entries : (r s : Queue) → r ≡ taken-out q x → HasEntries s (inserted id (key-at q x + amount) (entries r)) → HasEntries s (moved id amount (entries q))
-  move-entries r s is done =
-      record {
-        sound = done .sound;
-        content = done .content
-            ∙ (ap (λ (p : Queue). inserted id (key-at q x + amount) (entries p)) is
-            ∙ (ap (inserted id (key-at q x + amount)) (rest .content) ∙ ap (λ (k : ℕ). put (record { key = k + amount; id = id }) (without id (entries q))) (sym move-key)));
-      }
+  pub move-can-put : (n : ℕ) → IsPosition left key id n → CanPut left x n
+  move-can-put n position =
+      (can-at .holds .0, node-below (id-at left) n (position .node), node-below (id-at left) (prev-at left n) (rest .sound .links n (position .node) .prev-is-node))
+
+  pub moved-at : (n : ℕ) → IsPosition left key id n → (r : Queue) → r ≡ put-before left x id key n → IsMovedAt q x amount r
+  moved-at n position r is =
+      let inside = can-at .holds .0 in
+      let new = move-new .1 in
+      let free = getD-set-same (q .ids) x 0 0 (omega (arith, shape .ids, inside)) in
+      let same : inserted id key (entries left) ≡ moved id amount (entries q) =
+      ap (inserted id key) (rest .content) ∙ ap (λ (k : ℕ). put (record { key = k + amount; id = id }) (without id (entries q))) (sym move-key) in
+      subst⁻¹ (IsMovedAt q x amount) is
+      (record {
+        shape = put-shape;
+        has-entries = record {
+          sound = put-sound left (rest .sound) left-shape x id key n inside free (new .some) (new .small) (new .unused) (position .node) (position .bucket) (position .above) (position .below)
+              (subst⁻¹ InBounds same (can-at .can .bounds));
+          content = put-entries left (rest .sound) left-shape x id key n inside free (new .some) (new .small) (new .unused) (position .node) (position .bucket) (position .above) (position .below) ∙ same;
+        };
+        places = set-set (q .ids) x 0 id ∙ set-getD (q .ids) x 0;
+      })
+    where
+      long : (l : List ℕ) (i a b : ℕ) → length (set (set l i a) x b) ≡ length l
+      long l i a b = length-set (set l i a) x b ∙ length-set l i a
+
+      left-shape : HasShape left
+      left-shape =
+          record {
+            ids = length-set (q .ids) x 0 ∙ shape .ids;
+            keys = length-set (q .keys) x 0 ∙ shape .keys;
+            next = long (q .next) (prev-at q x) (next-at q x) 0 ∙ shape .next;
+            prev = long (q .prev) (next-at q x) (prev-at q x) 0 ∙ shape .prev;
+          }
+
+      put-shape : HasShape (put-before left x id key n)
+      put-shape =
+          record {
+            ids = length-set (left .ids) x id ∙ left-shape .ids;
+            keys = length-set (left .keys) x key ∙ left-shape .keys;
+            next = long (left .next) (prev-at left n) x n ∙ left-shape .next;
+            prev = long (left .prev) n x (prev-at left n) ∙ left-shape .prev;
+          }

@@ -15,15 +15,8 @@ use Rattle.queue.specs.Layout.{id-at, key-at, next-at, prev-at, Holds, e
 use Rattle.queue.specs.Layout.LinkFacts.{high-place, low-place}
 use Rattle.queue.specs.Layout.LinkChange.{IsSet, put-linked, taken-linked}
 use Rattle.queue.specs.Layout.Collected.{Once, entry, of-collected, in-collected, put-once, put-collected, taken-once, taken-collected}
-use Rattle.queue.specs.Inner.{put-before, taken-out}
+use Rattle.queue.specs.Inner.{HasShape, put-before, taken-out}
 use Rattle.queue.specs.declared.Queue.{Queue}
-
--- the arrays are as long as their types say
-pub record HasShape (q : Queue) : Type 0 where
-  pub ids : length (q .ids) ≡ 64
-  pub keys : length (q .keys) ≡ 64
-  pub next : length (q .next) ≡ 544
-  pub prev : length (q .prev) ≡ 544
 
 is-set : (l : List ℕ) (x v : ℕ) → x < length l → IsSet (λ i. getD l i 0) x v (λ i. getD (set l x v) i 0)
 is-set l x v inside = record { at = getD-set-same l x v 0 inside; elsewhere = λ y other. getD-set-other l x y v 0 other }

@@ -1,50 +1,71 @@
 -- `planner::slots::serve_sound` meets its contract: after k turns the first k slots have been served, in the table and in the queue.
-use Prim.Native.Nat.{_-_, _≤_}
+use mathlib.Core.Path.{subst⁻¹}
+use Prim.Native.Nat.{_+_, _-_, _≤_}
 use native.Mathlib.Omega.{arith}
-use borrow.Author.Needs.{needs}
-use Rattle.planner.specs.Content.{content}
-use Rattle.planner.specs.ServingFacts.{ServedTo, none-served, can-change, can-serve, can-move-on, one-more-served, all-served}
+use lib.ListN.{set, getD}
+use Rattle.table.specs.declared.Stream.{Stream}
+use Rattle.queue.specs.Layout.{queue-of}
+use Rattle.planner.specs.ServingFacts.{Serving, table-of, none-served, chosen-below, row-below, can-send, can-move-at, one-more-served, all-served}
+use Rattle.planner.proofs.Shape.{planner-shape, planner-queue-shape}
 use Rattle.planner.proofs.slots.serve_sound.Statement.{statement}
 use Rattle.planner.proofs.slots.serve_sound.Tie as tie
 
 abbrev Inv-loop : tie.InvT-loop
-Inv-loop p chosen start ids table₀ queue₀ k₀ table queue k = (k ≤ chosen .n) × ServedTo (content p) start k table queue
+Inv-loop p chosen start rows places before streams₀ ids₀ keys₀ next₀ prev₀ k₀ streams ids keys next prev k =
+    (k ≤ chosen .n) × Serving p start k streams (queue-of ids keys next prev)
 
 abbrev μ-loop : tie.MeasureT-loop
-μ-loop p chosen start ids table₀ queue₀ k₀ table queue k = chosen .n - k
+μ-loop p chosen start rows places before streams₀ ids₀ keys₀ next₀ prev₀ k₀ streams ids keys next prev k = chosen .n - k
 
 loop-holds : tie.Need-loop-holds Inv-loop μ-loop
-loop-holds c = (omega arith, none-served (c .before .before .before .args .p) (c .before .before .before .args .start) (c .before .before .before .args .chosen) (c .before .before .before .pre))
+loop-holds c = (omega arith, none-served (c .before .before .before .before .before .before .before .before .before .args .p) (c .before .before .before .before .before .before .before .before .before .args .start) (c .before .before .before .before .before .before .before .before .before .args .chosen) (c .before .before .before .before .before .before .before .before .before .pre) (planner-queue-shape (c .before .before .before .before .before .before .before .before .before .args .p) _ (c .before .before .before .before .before .before .before .before .before .good .0)) (planner-shape (c .before .before .before .before .before .before .before .before .before .args .p) _ (c .before .before .before .before .before .before .before .before .before .good .0)))
 
-mul-id : tie.Need-mul-id Inv-loop μ-loop
-mul-id c = search needs
+mul-row : tie.Need-mul-row Inv-loop μ-loop
+mul-row c = omega (arith, c .if1 .taken, chosen-below (c .before .before .before .before .before .before .before .before .before .before .before .before .args .p) (c .before .before .before .before .before .before .before .before .before .before .before .before .args .start) (c .before .before .before .before .before .before .before .before .before .before .before .before .args .chosen) (c .before .before .before .before .before .before .before .before .before .before .before .before .pre))
 
-array-read-id : tie.Need-array-read-id Inv-loop μ-loop
-array-read-id c = omega (arith, c .before .before .before .before .before .before .pre .is-chosen .few, c .before .before .before .before .before .before .pre .can-choose .sound .content-sound .in-range .slots)
+array-read-row : tie.Need-array-read-row Inv-loop μ-loop
+array-read-row c = omega (arith, c .if1 .taken, chosen-below (c .before .before .before .before .before .before .before .before .before .before .before .before .args .p) (c .before .before .before .before .before .before .before .before .before .before .before .before .args .start) (c .before .before .before .before .before .before .before .before .before .before .before .before .args .chosen) (c .before .before .before .before .before .before .before .before .before .before .before .before .pre))
 
-cast-id : tie.Need-cast-id Inv-loop μ-loop
-cast-id c = search needs
+mul-stream : tie.Need-mul-stream Inv-loop μ-loop
+mul-stream c = omega (arith, row-below (c .before .before .before .before .before .before .before .before .before .before .before .before .args .p) (c .before .before .before .before .before .before .before .before .before .before .before .before .args .start) (c .before .before .before .before .before .before .before .before .before .before .before .before .args .chosen) (c .before .before .before .before .before .before .before .before .before .before .before .before .pre) (c .before .before .loop .k) (c .if1 .taken) (c .before .before .loop .streams) (queue-of (c .before .before .loop .ids) (c .before .before .loop .keys) (c .before .before .loop .next) (c .before .before .loop .prev)) (c .before .before .loop .inv .1))
 
-find-in-range-requires : tie.Need-find-in-range-requires Inv-loop μ-loop
-find-in-range-requires c κs = can-change (c .before .before .before .before .before .before .args .p) (c .before .before .before .before .before .before .args .start) (c .before .before .before .before .before .before .args .chosen) (c .before .before .before .before .before .before .pre) _ (c .if1 .taken) (c .before .before .loop .table) (c .before .before .loop .queue) (c .before .before .loop .inv .1)
+array-copy-out-stream : tie.Need-array-copy-out-stream Inv-loop μ-loop
+array-copy-out-stream c = row-below (c .before .before .before .before .before .before .before .before .before .before .before .before .args .p) (c .before .before .before .before .before .before .before .before .before .before .before .before .args .start) (c .before .before .before .before .before .before .before .before .before .before .before .before .args .chosen) (c .before .before .before .before .before .before .before .before .before .before .before .before .pre) (c .before .before .loop .k) (c .if1 .taken) (c .before .before .loop .streams) (queue-of (c .before .before .loop .ids) (c .before .before .loop .keys) (c .before .before .loop .next) (c .before .before .loop .prev)) (c .before .before .loop .inv .1)
 
-serve-in-range-requires : tie.Need-serve-in-range-requires Inv-loop μ-loop
-serve-in-range-requires c κs = can-serve (c .before .before .before .before .before .before .before .args .p) (c .before .before .before .before .before .before .before .args .start) (c .before .before .before .before .before .before .before .args .chosen) (c .before .before .before .before .before .before .before .pre) _ (c .before .if1 .taken) (c .before .before .before .loop .table) (c .before .before .before .loop .queue) (c .before .before .before .loop .inv .1)
+at-next-packet-in-range-requires : tie.Need-at-next-packet-in-range-requires Inv-loop μ-loop
+at-next-packet-in-range-requires c κs = can-send (c .before .before .before .before .before .before .before .before .before .before .before .before .before .args .p) (c .before .before .before .before .before .before .before .before .before .before .before .before .before .args .start) (c .before .before .before .before .before .before .before .before .before .before .before .before .before .args .chosen) (c .before .before .before .before .before .before .before .before .before .before .before .before .before .pre) (c .before .before .before .loop .k) (c .before .if1 .taken) (c .before .before .before .loop .streams) (queue-of (c .before .before .before .loop .ids) (c .before .before .before .loop .keys) (c .before .before .before .loop .next) (c .before .before .before .loop .prev)) (c .before .before .before .loop .inv .1)
 
-move-sound-requires : tie.Need-move-sound-requires Inv-loop μ-loop
-move-sound-requires c κs = can-move-on (c .before .before .before .before .before .before .before .before .args .p) (c .before .before .before .before .before .before .before .before .args .start) (c .before .before .before .before .before .before .before .before .args .chosen) (c .before .before .before .before .before .before .before .before .pre) _ (c .before .before .if1 .taken) (c .before .before .before .before .loop .table) (c .before .before .before .before .loop .queue) (c .before .before .before .before .loop .inv .1) _ (c .before .find-in-range .ensures)
+mul-streams : tie.Need-mul-streams Inv-loop μ-loop
+mul-streams c = omega (arith, row-below (c .before .before .before .before .before .before .before .before .before .before .before .before .before .before .args .p) (c .before .before .before .before .before .before .before .before .before .before .before .before .before .before .args .start) (c .before .before .before .before .before .before .before .before .before .before .before .before .before .before .args .chosen) (c .before .before .before .before .before .before .before .before .before .before .before .before .before .before .pre) (c .before .before .before .before .loop .k) (c .before .before .if1 .taken) (c .before .before .before .before .loop .streams) (queue-of (c .before .before .before .before .loop .ids) (c .before .before .before .before .loop .keys) (c .before .before .before .before .loop .next) (c .before .before .before .before .loop .prev)) (c .before .before .before .before .loop .inv .1))
+
+array-set-from-streams : tie.Need-array-set-from-streams Inv-loop μ-loop
+array-set-from-streams c = row-below (c .before .before .before .before .before .before .before .before .before .before .before .before .before .before .args .p) (c .before .before .before .before .before .before .before .before .before .before .before .before .before .before .args .start) (c .before .before .before .before .before .before .before .before .before .before .before .before .before .before .args .chosen) (c .before .before .before .before .before .before .before .before .before .before .before .before .before .before .pre) (c .before .before .before .before .loop .k) (c .before .before .if1 .taken) (c .before .before .before .before .loop .streams) (queue-of (c .before .before .before .before .loop .ids) (c .before .before .before .before .loop .keys) (c .before .before .before .before .loop .next) (c .before .before .before .before .loop .prev)) (c .before .before .before .before .loop .inv .1)
+
+mul-move-at-sound : tie.Need-mul-move-at-sound Inv-loop μ-loop
+mul-move-at-sound c = omega (arith, c .before .before .before .before .before .before .if1 .taken, chosen-below (c .before .before .before .before .before .before .before .before .before .before .before .before .before .before .before .before .before .before .args .p) (c .before .before .before .before .before .before .before .before .before .before .before .before .before .before .before .before .before .before .args .start) (c .before .before .before .before .before .before .before .before .before .before .before .before .before .before .before .before .before .before .args .chosen) (c .before .before .before .before .before .before .before .before .before .before .before .before .before .before .before .before .before .before .pre))
+
+array-read-move-at-sound : tie.Need-array-read-move-at-sound Inv-loop μ-loop
+array-read-move-at-sound c = omega (arith, c .before .before .before .before .before .before .if1 .taken, chosen-below (c .before .before .before .before .before .before .before .before .before .before .before .before .before .before .before .before .before .before .args .p) (c .before .before .before .before .before .before .before .before .before .before .before .before .before .before .before .before .before .before .args .start) (c .before .before .before .before .before .before .before .before .before .before .before .before .before .before .before .before .before .before .args .chosen) (c .before .before .before .before .before .before .before .before .before .before .before .before .before .before .before .before .before .before .pre))
+
+move-at-sound-requires : tie.Need-move-at-sound-requires Inv-loop μ-loop
+move-at-sound-requires c κs = can-move-at (c .before .before .before .before .before .before .before .before .before .before .before .before .before .before .before .before .before .before .args .p) (c .before .before .before .before .before .before .before .before .before .before .before .before .before .before .before .before .before .before .args .start) (c .before .before .before .before .before .before .before .before .before .before .before .before .before .before .before .before .before .before .args .chosen) (c .before .before .before .before .before .before .before .before .before .before .before .before .before .before .before .before .before .before .pre) (c .before .before .before .before .before .before .before .before .loop .k) (c .before .before .before .before .before .before .if1 .taken) (c .before .before .before .before .before .before .before .before .loop .streams) (queue-of (c .before .before .before .before .before .before .before .before .loop .ids) (c .before .before .before .before .before .before .before .before .loop .keys) (c .before .before .before .before .before .before .before .before .loop .next) (c .before .before .before .before .before .before .before .before .loop .prev)) (c .before .before .before .before .before .before .before .before .loop .inv .1)
 
 add-k : tie.Need-add-k Inv-loop μ-loop
-add-k c = search needs
+add-k c = omega (arith, c .before .before .before .before .before .before .before .if1 .taken, chosen-below (c .before .before .before .before .before .before .before .before .before .before .before .before .before .before .before .before .before .before .before .args .p) (c .before .before .before .before .before .before .before .before .before .before .before .before .before .before .before .before .before .before .before .args .start) (c .before .before .before .before .before .before .before .before .before .before .before .before .before .before .before .before .before .before .before .args .chosen) (c .before .before .before .before .before .before .before .before .before .before .before .before .before .before .before .before .before .before .before .pre))
 
 loop-less : tie.Need-loop-less Inv-loop μ-loop
 loop-less c = omega arith
 
 loop-again : tie.Need-loop-again Inv-loop μ-loop
-loop-again c = (omega arith, one-more-served (c .before .before .before .before .before .before .before .before .before .args .p) (c .before .before .before .before .before .before .before .before .before .args .start) (c .before .before .before .before .before .before .before .before .before .args .chosen) (c .before .before .before .before .before .before .before .before .before .pre) _ (c .before .before .before .if1 .taken) (c .before .before .before .before .before .loop .table) (c .before .before .before .before .before .loop .queue) (c .before .before .before .before .before .loop .inv .1) _ (c .before .before .find-in-range .ensures) _ (c .before .serve-in-range .ensures) _ (c .move-sound .ensures))
+loop-again c = (
+  omega arith,
+  subst⁻¹ (λ (r : Stream). Serving (c .before .before .before .before .before .before .before .before .before .before .before .before .before .before .before .before .before .before .before .args .p) (c .before .before .before .before .before .before .before .before .before .before .before .before .before .before .before .before .before .before .before .args .start) (c .before .before .before .before .before .before .before .before .before .loop .k + 1) (set (c .before .before .before .before .before .before .before .before .before .loop .streams) (getD (c .before .before .before .before .before .before .before .before .before .before .before .before .before .before .before .before .before .before .before .args .chosen .rows) (c .before .before .before .before .before .before .before .before .before .loop .k) 0) r) (queue-of (c .move-at-sound .last .0) (c .move-at-sound .last .1 .0) (c .move-at-sound .last .1 .1 .0) (c .move-at-sound .last .1 .1 .1 .0))) (c .before .before .before .before .before .at-next-packet-in-range .ensures)
+      (one-more-served (c .before .before .before .before .before .before .before .before .before .before .before .before .before .before .before .before .before .before .before .args .p) (c .before .before .before .before .before .before .before .before .before .before .before .before .before .before .before .before .before .before .before .args .start) (c .before .before .before .before .before .before .before .before .before .before .before .before .before .before .before .before .before .before .before .args .chosen) (c .before .before .before .before .before .before .before .before .before .before .before .before .before .before .before .before .before .before .before .pre) (c .before .before .before .before .before .before .before .before .before .loop .k) (c .before .before .before .before .before .before .before .if1 .taken) (c .before .before .before .before .before .before .before .before .before .loop .streams) (queue-of (c .before .before .before .before .before .before .before .before .before .loop .ids) (c .before .before .before .before .before .before .before .before .before .loop .keys) (c .before .before .before .before .before .before .before .before .before .loop .next) (c .before .before .before .before .before .before .before .before .before .loop .prev)) (c .before .before .before .before .before .before .before .before .before .loop .inv .1) _ (c .move-at-sound .ensures)),
+)
 
 returns : tie.Need-returns Inv-loop μ-loop
-returns c = all-served (c .before .before .before .before .before .before .args .p) (c .before .before .before .before .before .before .args .start) (c .before .before .before .before .before .before .args .chosen) (c .before .before .before .before .before .before .pre) _ (c .if1 .left) (c .before .before .loop .table) (c .before .before .loop .queue) (c .before .before .loop .inv .1)
+returns c =
+    all-served (c .before .before .before .before .before .before .before .before .before .before .before .before .args .p) (c .before .before .before .before .before .before .before .before .before .before .before .before .args .start) (c .before .before .before .before .before .before .before .before .before .before .before .before .args .chosen) (c .before .before .before .before .before .before .before .before .before .before .before .before .pre) (c .before .before .loop .k) (c .if1 .left) (table-of (c .before .before .before .before .before .before .before .before .before .before .before .before .args .p) (c .before .before .loop .streams)) (queue-of (c .before .before .loop .ids) (c .before .before .loop .keys) (c .before .before .loop .next) (c .before .before .loop .prev)) (c .before .before .loop .inv .1 .served)
 
 pub serve-sound-spec : {M : Type 1} → statement M
 serve-sound-spec =
@@ -53,12 +74,16 @@ serve-sound-spec =
     Inv-loop
     μ-loop
     loop-holds
-    mul-id
-    array-read-id
-    cast-id
-    find-in-range-requires
-    serve-in-range-requires
-    move-sound-requires
+    mul-row
+    array-read-row
+    mul-stream
+    array-copy-out-stream
+    at-next-packet-in-range-requires
+    mul-streams
+    array-set-from-streams
+    mul-move-at-sound
+    array-read-move-at-sound
+    move-at-sound-requires
     add-k
     loop-less
     loop-again

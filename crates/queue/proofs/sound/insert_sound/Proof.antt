@@ -1,4 +1,3 @@
--- `queue::sound::insert_sound` meets its contract: the first free place takes the entry, and the position keeps the bucket in order.
 use mathlib.Core.Path.{subst⁻¹}
 use Rattle.queue.specs.Layout.{entries}
 use Rattle.queue.specs.Calls.{inserted, HasEntries}
@@ -8,23 +7,33 @@ use Rattle.queue.specs.Layout.Change.{insert-new, insert-can-put, insert
 use borrow.Author.Needs.{needs}
 use Rattle.queue.proofs.sound.insert_sound.Statement.{statement}
 use Rattle.queue.proofs.sound.insert_sound.Tie as tie
+use Rattle.queue.proofs.sound.insert_sound.Reads as reads
+use Rattle.queue.proofs.sound.insert_sound.Lts as lts
+use Rattle.queue.proofs.links.place_of.Reads as place-of-reads
+use Rattle.queue.proofs.links.position_sound.Reads as position-sound-reads
+use Rattle.queue.proofs.links.put_before.Reads as put-before-reads
 
+-- src/sound.rt:79:9
 place-of-requires : tie.Need-place-of-requires
 place-of-requires c κs = search needs
 
+-- src/sound.rt:80:9
 position-sound-requires : tie.Need-position-sound-requires
-position-sound-requires c κs = (c .before .before .before .pre .sound, insert-new (c .before .before .before .args .t1) (c .before .before .before .args .id) (c .before .before .before .args .key) (c .before .before .before .pre))
+position-sound-requires c κs = (c .before .before .before .before .before .before .before .before .before .before .pre .sound, insert-new (c .before .before .before .before .before .before .before .before .before .before .args .q) (c .before .before .before .before .before .before .before .before .before .before .args .id) (c .before .before .before .before .before .before .before .before .before .before .args .key) (c .before .before .before .before .before .before .before .before .before .before .pre))
 
+-- src/sound.rt:81:62
 cast-put-before : tie.Need-cast-put-before
 cast-put-before c = search needs
 
+-- src/sound.rt:81:5
 put-before-requires : tie.Need-put-before-requires
-put-before-requires c κs = insert-can-put (c .before .before .before .before .args .t1) (c .before .before .before .before .args .id) (c .before .before .before .before .args .key) (c .before .before .before .before .pre) (c .before .place-of .result) (c .position-sound .result) (c .before .place-of .ensures) (c .position-sound .ensures)
+put-before-requires c κs = insert-can-put (c .before .before .before .before .before .before .before .before .before .before .before .before .before .before .before .args .q) (c .before .before .before .before .before .before .before .before .before .before .before .before .before .before .before .args .id) (c .before .before .before .before .before .before .before .before .before .before .before .before .before .before .before .args .key) (c .before .before .before .before .before .before .before .before .before .before .before .before .before .before .before .pre) (c .before .before .before .before .before .before .before .before .before .place-of .result) (c .before .before .before .before .position-sound .result) (c .before .before .before .before .before .before .before .before .before .place-of .ensures) (c .before .before .before .before .position-sound .ensures)
 
+-- src/sound.rt:71:1
 returns : tie.Need-returns
 returns c =
-    subst⁻¹ (λ (r : Queue). HasEntries r (inserted (c .before .before .before .before .before .args .id) (c .before .before .before .before .before .args .key) (entries (c .before .before .before .before .before .args .t1)))) (c .put-before .ensures)
-    (insert-entries (c .before .before .before .before .before .args .t1) (c .before .before .before .before .before .args .id) (c .before .before .before .before .before .args .key) (c .before .before .before .before .before .pre) (has-shape (c .before .before .before .before .before .args .t1) _ (c .before .before .before .before .before .good .0)) (c .before .before .place-of .result) (c .before .position-sound .result) (c .before .before .place-of .ensures) (c .before .position-sound .ensures))
+    subst⁻¹ (λ (r : Queue). HasEntries r (inserted (c .before .before .before .before .before .before .before .before .before .before .before .before .before .before .before .before .args .id) (c .before .before .before .before .before .before .before .before .before .before .before .before .before .before .before .before .args .key) (entries (c .before .before .before .before .before .before .before .before .before .before .before .before .before .before .before .before .args .q)))) (c .put-before .ensures)
+    (insert-entries (c .before .before .before .before .before .before .before .before .before .before .before .before .before .before .before .before .args .q) (c .before .before .before .before .before .before .before .before .before .before .before .before .before .before .before .before .args .id) (c .before .before .before .before .before .before .before .before .before .before .before .before .before .before .before .before .args .key) (c .before .before .before .before .before .before .before .before .before .before .before .before .before .before .before .before .pre) (has-shape (c .before .before .before .before .before .before .before .before .before .before .before .before .before .before .before .before .args .q) _ (c .before .before .before .before .before .before .before .before .before .before .before .before .before .before .before .before .good .0)) (c .before .before .before .before .before .before .before .before .before .before .place-of .result) (c .before .before .before .before .before .position-sound .result) (c .before .before .before .before .before .before .before .before .before .before .place-of .ensures) (c .before .before .before .before .before .position-sound .ensures))
 
 pub insert-sound-spec : {M : Type 1} → statement M
 insert-sound-spec =

@@ -1,42 +1,30 @@
--- `queue::sound::move_sound` meets its contract: the id is taken out and filed again under the larger key.
-use native.Mathlib.Nat.{lt-of-le-of-lt}
-use lib.Dec.{lit<}
+use mathlib.Core.Path.{subst}
+use Prim.Native.Nat.{ℕ}
+use Rattle.queue.specs.Layout.{queue-of, entries}
+use Rattle.queue.specs.Calls.{moved, HasEntries}
 use Rattle.queue.proofs.Shape.{has-shape}
-use Rattle.queue.specs.Layout.Change.{delete-can-take, move-place, move-fits, move-can-insert, move-entries}
+use Rattle.queue.specs.Layout.Change.{filed-place, move-at}
 use borrow.Author.Needs.{needs}
 use Rattle.queue.proofs.sound.move_sound.Statement.{statement}
 use Rattle.queue.proofs.sound.move_sound.Tie as tie
+use Rattle.queue.proofs.sound.move_sound.Reads as reads
+use Rattle.queue.proofs.sound.move_sound.Lts as lts
+use Rattle.queue.proofs.links.place_of.Reads as place-of-reads
+use Rattle.queue.proofs.sound.move_at_sound.Reads as move-at-sound-reads
 
+-- src/sound.rt:137:9
 place-of-requires : tie.Need-place-of-requires
 place-of-requires c κs = search needs
 
-mul-key : tie.Need-mul-key
-mul-key c = search needs
+-- src/sound.rt:138:5
+move-at-sound-requires : tie.Need-move-at-sound-requires
+move-at-sound-requires c κs = move-at (c .before .before .before .before .before .before .before .before .before .before .args .q) (c .before .before .before .before .before .before .before .before .before .before .args .id) (c .before .before .before .before .before .before .before .before .before .before .args .amount) (c .before .before .before .before .place-of .result) (has-shape (c .before .before .before .before .before .before .before .before .before .before .args .q) _ (c .before .before .before .before .before .before .before .before .before .before .good .0)) (c .before .before .before .before .before .before .before .before .before .before .pre) (c .before .before .before .before .place-of .ensures)
 
-element-copy-out-key : tie.Need-element-copy-out-key
-element-copy-out-key c = move-place (c .before .before .before .args .t1) (c .before .before .before .args .id) (c .before .before .before .args .amount) (c .place-of .result) (c .before .before .before .pre) (c .place-of .ensures) (has-shape (c .before .before .before .args .t1) _ (c .before .before .before .good .0))
-
-take-out-requires : tie.Need-take-out-requires
-take-out-requires c κs = delete-can-take (c .before .before .before .before .args .t1) (c .before .before .before .before .args .id) (c .before .place-of .result) (c .before .before .before .before .pre .sound) (c .before .before .before .before .pre .filed) (c .before .place-of .ensures)
-
-add-insert-sound : tie.Need-add-insert-sound
-add-insert-sound c = record { fits = lt-of-le-of-lt (move-fits (c .before .before .before .before .before .args .t1) (c .before .before .before .before .before .args .id) (c .before .before .before .before .before .args .amount) (c .before .before .place-of .result) (c .before .before .before .before .before .pre) (c .before .before .place-of .ensures) (has-shape (c .before .before .before .before .before .args .t1) _ (c .before .before .before .before .before .good .0))) (lit< tt) }
-
-insert-sound-requires : tie.Need-insert-sound-requires
-insert-sound-requires c κs = move-can-insert (c .before .before .before .before .before .args .t1) (c .before .before .before .before .before .args .id) (c .before .before .before .before .before .args .amount) (c .before .before .place-of .result) (c .before .before .before .before .before .pre) (c .before .before .place-of .ensures) (has-shape (c .before .before .before .before .before .args .t1) _ (c .before .before .before .before .before .good .0)) (c .take-out .result) (c .take-out .ensures)
-
+-- src/sound.rt:129:1
 returns : tie.Need-returns
 returns c =
-    move-entries (c .before .before .before .before .before .before .args .t1) (c .before .before .before .before .before .before .args .id) (c .before .before .before .before .before .before .args .amount) (c .before .before .before .place-of .result) (c .before .before .before .before .before .before .pre) (c .before .before .before .place-of .ensures) (has-shape (c .before .before .before .before .before .before .args .t1) _ (c .before .before .before .before .before .before .good .0)) (c .before .take-out .result) (c .insert-sound .result) (c .before .take-out .ensures) (c .insert-sound .ensures)
+    subst (λ (n : ℕ). HasEntries (queue-of (c .move-at-sound .last .0) (c .move-at-sound .last .1 .0) (c .move-at-sound .last .1 .1 .0) (c .move-at-sound .last .1 .1 .1 .0)) (moved n (c .before .before .before .before .before .before .before .before .before .before .before .args .amount) (entries (c .before .before .before .before .before .before .before .before .before .before .before .args .q)))) (filed-place (c .before .before .before .before .before .before .before .before .before .before .before .args .q) (c .before .before .before .before .before .before .before .before .before .before .before .args .id) (c .before .before .before .before .before .place-of .result) (c .before .before .before .before .before .before .before .before .before .before .before .pre .filed) (c .before .before .before .before .before .place-of .ensures) .1)
+    (c .move-at-sound .ensures .has-entries)
 
 pub move-sound-spec : {M : Type 1} → statement M
-move-sound-spec =
-    tie.close
-    (tie.spec
-    place-of-requires
-    mul-key
-    element-copy-out-key
-    take-out-requires
-    add-insert-sound
-    insert-sound-requires
-    returns)
+move-sound-spec = tie.close (tie.spec place-of-requires move-at-sound-requires returns)

@@ -1,0 +1,54 @@
+// All entries in order, in one walk over the buckets.
+ghost use Prim.Native.Nat.{_≤_, _<_};
+ghost use lib.ListN.{length};
+ghost use Rattle.queue.specs.Layout.{entries, Sound};
+ghost use Rattle.queue.specs.Inner.{IsFollowing, IsInOrder};
+use super::Queue;
+use super::links::head_of;
+use super::links::node_at;
+use super::search::bucket_after;
+use super::soundness::least_key;
+use super::soundness::residue;
+
+// The place of the entry that follows a node in the bucket of a key, along its list or in a later bucket; 64 if none follows.
+fn following_in_range<'a>(keys: &'a [u32; 64], next: &'a [u16; 544], key: u32, n: usize) -> usize
+    requires { ⌜ n < 544 ⌝ }
+    ensures { λ r. ⌜ IsFollowing (now (keys .entry)) (now (next .entry)) key n r ⌝ }
+{
+    let on = node_at(next, n);
+    if on < 64 {
+        return on;
+    }
+    let mut bucket = bucket_after(residue(key));
+    let mut left: usize = 479;
+    while 0 < left {
+        let first = node_at(next, 64 + bucket);
+        if first < 64 {
+            if key < keys[first] {
+                return first;
+            }
+            return 64;
+        }
+        bucket = bucket_after(bucket);
+        left -= 1;
+    }
+    64
+}
+
+// The places of the first `count` entries, in order. The walk begins at the head of the least key's bucket.
+pub fn places_in_order_sound(q: Queue, count: usize) -> [usize; 64]
+    requires { ⌜ Sound q × (count ≤ length (entries q)) ⌝ }
+    ensures { λ r. ⌜ IsInOrder q count r ⌝ }
+{
+    let mut places = [0usize; 64];
+    let mut key = least_key(&q.ids, &q.keys);
+    let mut n = head_of(key);
+    let mut k: usize = 0;
+    while k < count {
+        n = following_in_range(&q.keys, &q.next, key, n);
+        places[k] = n;
+        key = q.keys[n];
+        k += 1;
+    }
+    places
+}

@@ -2,7 +2,7 @@
 //   plain      document 004's Algorithms 1 to 4 on a bucket queue, with nothing tested;
 //   analytic   formula (2), with a division for each stream and each length up to the superframe.
 // All three run the same calls on the same tables, in turn in one process, and must answer alike. A time is per call, the median of RUNS.
-// With `TABLE CALL TURNS` it runs only the proved calls, for counting instructions.
+// With `TABLE` it measures that table alone; with `TABLE CALL TURNS` it runs only the proved calls, for counting instructions.
 use std::hint::black_box;
 use std::time::Instant;
 
@@ -122,7 +122,8 @@ fn main() {
         "{:<10} {:>5} {:<8} {:>10} {:>10} {:>13} {:>12} {:>16}",
         "table", "busy", "call", "proved ns", "plain ns", "proved/plain", "analytic ns", "proved/analytic"
     );
-    for table in &tables::all(None) {
+    let only = words.first().map(String::as_str);
+    for table in &tables::all(only) {
         let setup = table.setup(None);
         for case in &setup.cases {
             measure(&setup.name, setup.busy, case);

@@ -132,22 +132,34 @@ fn offer_with_answer(p: &Planner, answer: u32, period: u32) -> Option<Offer> {
     offers.into_iter().find(|offer| p.clone().add(*offer) == answer)
 }
 
+// Streams that leave no room for one more: by the demand rule, or by the start rule at some time.
+#[derive(Clone, Copy, PartialEq)]
+enum Crowd {
+    Demand,
+    Start,
+}
+
 impl Table {
-    // Every stream at a start that is accepted, and a deadline below its period where there is room for that.
+    // Adds stream i at a start that is accepted, with a deadline below its period where there is room for that.
+    fn add(&self, p: &mut Planner, random: &mut Random, i: usize, deadline: Option<u32>) {
+        let period = self.periods[i];
+        for tries in 0..10_000 {
+            let shorter = if self.busy < 100 && tries < 200 { random.below(period / 2 + 1) } else { 0 };
+            let start = p.last + 1 + random.below(240);
+            let offer = Offer { id: i as u32 + 1, start, period, deadline: deadline.unwrap_or(period - shorter) };
+            if p.add(offer) == 0 {
+                return;
+            }
+        }
+        panic!("no start is accepted: {} {i}", self.name);
+    }
+
+    // All streams, after a long run of rounds.
     fn filled(&self) -> Planner {
         let mut random = Random(11);
         let mut p = Planner::open(self.slots, FRAME, GAP);
-        for (i, period) in self.periods.iter().enumerate() {
-            let mut tries = 0;
-            loop {
-                let shorter = if self.busy < 100 && tries < 200 { random.below(period / 2 + 1) } else { 0 };
-                let offer = Offer { id: i as u32 + 1, start: 1 + random.below(240), period: *period, deadline: period - shorter };
-                if p.add(offer) == 0 {
-                    break;
-                }
-                tries += 1;
-                assert!(tries < 10_000, "no start is accepted: {} {i}", self.name);
-            }
+        for i in 0..self.periods.len() {
+            self.add(&mut p, &mut random, i, None);
         }
         for _ in 0..ROUNDS {
             p.round();
@@ -155,7 +167,47 @@ impl Table {
         p
     }
 
-    // All calls, or one alone.
+    // The table with no short period: a round at every time unit would leave nothing waiting.
+    fn unhurried(&self) -> Table {
+        let periods = self.periods.iter().map(|p| if *p < 8 { 240 } else { *p }).collect();
+        Table { name: self.name.clone(), slots: self.slots, busy: self.busy, periods }
+    }
+
+    // All streams but the last, with a crowd: as many with deadline 1 as there are slots; or twice as many at one start, due within 2 and 3 of it.
+    fn crowded(&self, crowd: Crowd) -> Option<Planner> {
+        let mut random = Random(11);
+        let mut p = Planner::open(self.slots, FRAME, GAP);
+        let b = self.slots as usize;
+        let fewer = self.periods.len() - 1;
+        let ones = self.periods[..fewer].iter().filter(|period| **period == 1).count();
+        let (short, late) = if crowd == Crowd::Demand { (b.checked_sub(ones)?, 0) } else { (0, 2 * b) };
+        for i in late..fewer {
+            self.add(&mut p, &mut random, i, (i < short).then_some(1));
+        }
+        for _ in 0..ROUNDS {
+            p.round();
+        }
+        let together = |start| {
+            let mut q = p;
+            let offer = |i: usize| Offer { id: i as u32 + 1, start, period: self.periods[i], deadline: if i < b { 2 } else { 3 } };
+            (0..late).all(|i| q.add(offer(i)) == 0).then_some(q)
+        };
+        (p.last + 1..p.last + 240).find_map(together)
+    }
+
+    // An offer that the planner answers so, after some rounds if need be.
+    fn with_offer(&self, mut p: Planner, answer: u32) -> Option<(Planner, Offer)> {
+        let period = *self.periods.last()?;
+        for _ in 0..ROUNDS {
+            if let Some(offer) = offer_with_answer(&p, answer, period) {
+                return Some((p, offer));
+            }
+            p.round();
+        }
+        None
+    }
+
+    // All calls, or one alone. Where no offer is refused so on the table as it is, one is made to a crowded one.
     pub fn setup(&self, only: Option<&str>) -> Setup {
         let wanted = |name: &str| only.is_none_or(|o| o == name);
         let filled = self.filled();
@@ -167,17 +219,13 @@ impl Table {
         // one stream fewer, so that there is room for an offer
         let mut fewer = filled;
         fewer.remove(last);
-        for (name, answer) in [("add", 0), ("add, 12", 12), ("add, 13", 13)].into_iter().filter(|a| wanted(a.0)) {
-            let mut p = fewer;
-            let mut found = offer_with_answer(&p, answer, self.periods[last as usize - 1]);
-            for _ in 0..ROUNDS {
-                if found.is_some() {
-                    break;
-                }
-                p.round();
-                found = offer_with_answer(&p, answer, self.periods[last as usize - 1]);
-            }
-            if let Some(offer) = found {
+        let adds = [("add", 0, None), ("add, 12", 12, Some(Crowd::Demand)), ("add, 13", 13, Some(Crowd::Start))];
+        for (name, answer, crowd) in adds.into_iter().filter(|a| wanted(a.0)) {
+            let crowded = || match crowd? {
+                Crowd::Demand => self.with_offer(self.crowded(Crowd::Demand)?, answer),
+                Crowd::Start => self.with_offer(self.unhurried().crowded(Crowd::Start)?, answer),
+            };
+            if let Some((p, offer)) = self.with_offer(fewer, answer).or_else(crowded) {
                 case(name, &p, Call::Add(offer));
             }
         }

@@ -9,6 +9,7 @@ ghost use Rattle.planner.specs.Round.{rounded};
 ghost use Rattle.planner.specs.Inner.{CanChoose, CanServeAll, IsChosen, AreFound};
 use super::Planner;
 use queue::Queue;
+use queue::move_at_sound;
 use table::Stream;
 use table::Table;
 
@@ -81,8 +82,6 @@ pub fn serve_sound(p: Planner, chosen: Chosen, start: u32) -> Planner
     requires { ⌜ CanServeAll p start chosen ⌝ }
     ensures { λ r. ⌜ IsSoundWith (rounded (content p) start) r ⌝ }
 {
-    let rows = chosen.rows;
-    let places = chosen.places;
     let before = p.table;
     let filed = p.queue;
     let mut streams = before.streams;
@@ -92,17 +91,12 @@ pub fn serve_sound(p: Planner, chosen: Chosen, start: u32) -> Planner
     let mut prev = filed.prev;
     let mut k: usize = 0;
     while k < chosen.n {
-        let row = rows[k];
+        let row = chosen.rows[k];
+        let place = chosen.places[k];
         let stream = streams[row];
+        let period = stream.period;
         streams[row] = table::at_next_packet_in_range(stream);
-        queue::move_at_sound(
-            &mut ids,
-            &mut keys,
-            &mut next,
-            &mut prev,
-            places[k],
-            stream.period,
-        );
+        move_at_sound(&mut ids, &mut keys, &mut next, &mut prev, place, period);
         k += 1;
     }
     let table = Table {
@@ -115,12 +109,9 @@ pub fn serve_sound(p: Planner, chosen: Chosen, start: u32) -> Planner
         next,
         prev,
     };
-    Planner {
-        slots: p.slots,
-        frame: p.frame,
-        gap: p.gap,
-        last: start,
-        table,
-        queue,
-    }
+    let mut after = p;
+    after.last = start;
+    after.table = table;
+    after.queue = queue;
+    after
 }

@@ -5,6 +5,7 @@ ghost use mathlib.Core.Path.{_≡_};
 ghost use Prim.Native.Nat.{_%_, _≤_, _<_};
 ghost use Rattle.basics.specs.Decides.{Decides};
 ghost use Rattle.queue.specs.Layout.{IsNode, bucket-of, low, high, Linked, AllLinked, Sound};
+ghost use Rattle.queue.specs.Layout.LinkFacts.{LinkedBetween};
 ghost use Rattle.queue.specs.Layout.SoundnessFacts.{at, Below, KeyWithin, KeysWithin, New, IsLesser, IsLeast, ShortSpan, PlacesSound, NextRight, PrevRight, Alone};
 
 // The largest key that may be filed.
@@ -127,6 +128,29 @@ fn node_is_right<'a>(
     prev_is_right(ids, next, x, p)
 }
 
+// Whether each node from one to before another has its links right.
+fn linked_between<'a>(
+    ids: &'a [u16; 64],
+    keys: &'a [u32; 64],
+    next: &'a [u16; 544],
+    prev: &'a [u16; 544],
+    from: usize,
+    to: usize,
+) -> bool
+    requires { ⌜ to ≤ 544 ⌝ }
+    ensures { λ r. ⌜ Decides r (LinkedBetween (at (now (ids .entry))) (at (now (keys .entry))) (at (now (next .entry))) (at (now (prev .entry))) from to) ⌝ }
+{
+    let mut x = from;
+    while x < to {
+        if !node_is_right(ids, keys, next, prev, x) {
+            return false;
+        }
+        x += 1;
+    }
+    true
+}
+
+// Places first, then heads: in a loop over heads alone the compiler drops the tests for places.
 pub fn all_linked<'a>(
     ids: &'a [u16; 64],
     keys: &'a [u32; 64],
@@ -135,14 +159,10 @@ pub fn all_linked<'a>(
 ) -> bool
     ensures { λ r. ⌜ Decides r (AllLinked (at (now (ids .entry))) (at (now (keys .entry))) (at (now (next .entry))) (at (now (prev .entry)))) ⌝ }
 {
-    let mut x: usize = 0;
-    while x < 544 {
-        if !node_is_right(ids, keys, next, prev, x) {
-            return false;
-        }
-        x += 1;
+    if !linked_between(ids, keys, next, prev, 0, 64) {
+        return false;
     }
-    true
+    linked_between(ids, keys, next, prev, 64, 544)
 }
 
 fn ids_in_range(ids: &[u16; 64]) -> bool

@@ -1,13 +1,30 @@
 -- Laws of the links.
-use mathlib.Core.Path.{_≡_, refl, sym, ap, subst, _∙_}
+use mathlib.Core.Path.{_≡_, refl, sym, ap, subst, subst⁻¹, _∙_}
 use mathlib.Core.Logic.{inl, inr, if-pos, if-neg}
 use mathlib.Core.WellFounded.{recursion}
-use Prim.Native.Nat.{ℕ, _-_, _%_, _≤_, _<_}
+use Prim.Native.Nat.{ℕ, _+_, _-_, _%_, _≤_, _<_}
 use native.Mathlib.Nat.{lt-irrefl}
 use native.Mathlib.Decide.{decLt}
 use native.Mathlib.Omega.{arith}
 use lib.WfN.{Nat·lt-wfRel}
 use Rattle.queue.specs.Layout.{IsNode, bucket-of, low, high, Linked, AllLinked}
+
+-- The nodes from one to before another are linked.
+abbrev pub LinkedBetween : (ids keys next prev : ℕ → ℕ) → ℕ → ℕ → Type 0
+LinkedBetween ids keys next prev from to = (x : ℕ) → from ≤ x → x < to → IsNode ids x → Linked ids keys next prev x
+
+-- one node more
+pub linked-more : (ids keys next prev : ℕ → ℕ) (from x : ℕ) → LinkedBetween ids keys next prev from x → (IsNode ids x → Linked ids keys next prev x) → LinkedBetween ids keys next prev from (x + 1)
+linked-more ids keys next prev from x before here y low high = go (decLt y x)
+  where
+    go : Dec (y < x) → IsNode ids y → Linked ids keys next prev y
+    go (yes less) = before y low less
+    go (no last) = let same : y ≡ x = omega arith in subst⁻¹ (λ (z : ℕ). IsNode ids z → Linked ids keys next prev z) same here
+
+-- places and heads are all the nodes
+pub linked-all : (ids keys next prev : ℕ → ℕ) → LinkedBetween ids keys next prev 0 64 → LinkedBetween ids keys next prev 64 544 → AllLinked ids keys next prev
+linked-all ids keys next prev places heads x (inl place) = places x (omega arith) (place .0) (inl place)
+linked-all ids keys next prev places heads x (inr head) = heads x (head .0) (head .1) (inr head)
 
 -- low and high of an entry are its id; a head is below and above every id
 pub low-place : (ids : ℕ → ℕ) (x : ℕ) → x < 64 → low ids x ≡ ids x

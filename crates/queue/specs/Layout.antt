@@ -6,6 +6,7 @@ pub mod Collected
 pub mod Decide
 pub mod SoundFacts
 pub mod SoundnessFacts
+pub mod NewIds
 pub mod Walk
 pub mod Change
 pub mod Buckets

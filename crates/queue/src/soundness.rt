@@ -6,6 +6,7 @@ ghost use Prim.Native.Nat.{_%_, _≤_, _<_};
 ghost use Rattle.basics.specs.Decides.{Decides};
 ghost use Rattle.queue.specs.Layout.{IsNode, bucket-of, low, high, Linked, AllLinked, Sound};
 ghost use Rattle.queue.specs.Layout.LinkFacts.{LinkedBetween};
+ghost use Rattle.queue.specs.Layout.NewIds.{IsSame};
 ghost use Rattle.queue.specs.Layout.SoundnessFacts.{at, Below, KeyWithin, KeysWithin, New, IsLesser, IsLeast, ShortSpan, PlacesSound, NextRight, PrevRight, Alone};
 
 // The largest key that may be filed.
@@ -179,6 +180,17 @@ fn ids_in_range(ids: &[u16; 64]) -> bool
     true
 }
 
+// 1 for two ids that are the same.
+fn same_id(a: u16, b: u16) -> u16
+    ensures { λ r. ⌜ IsSame a b r ⌝ }
+{
+    if a == b {
+        return 1;
+    }
+    0
+}
+
+// Every earlier place is looked at, also past one with the id: a loop that cannot be left compares eight places at once.
 fn id_is_new(ids: &[u16; 64], i: usize) -> bool
     requires { ⌜ i < 64 ⌝ }
     ensures { λ r. ⌜ Decides r (New (at (now (ids .entry))) i) ⌝ }
@@ -187,15 +199,13 @@ fn id_is_new(ids: &[u16; 64], i: usize) -> bool
     if id < 1 {
         return true;
     }
+    let mut n: u16 = 0;
     let mut j: usize = 0;
     while j < i {
-        let other = ids[j];
-        if other == id {
-            return false;
-        }
+        n += same_id(ids[j], id);
         j += 1;
     }
-    true
+    n == 0
 }
 
 fn ids_differ(ids: &[u16; 64]) -> bool

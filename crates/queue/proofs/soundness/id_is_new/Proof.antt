@@ -1,20 +1,19 @@
--- `queue::soundness::id_is_new` meets its contract: no place before j has the id, and one that has it ends the search; a free place has no id to compare.
+-- `queue::soundness::id_is_new` meets its contract: n places before j have the id; a free place has no id to compare.
 use Prim.Native.Nat.{_≤_, _-_}
 use native.Mathlib.Omega.{arith}
-use borrow.Author.Count.{below-none, below-more}
 use borrow.Author.Needs.{needs}
-use mathlib.Core.Path.{_≡_}
 use native.Mathlib.Nat.{lt-irrefl, lt-of-lt-of-le}
-use Rattle.basics.specs.Decides.{decides-no, decides-yes}
-use Rattle.queue.specs.Layout.SoundnessFacts.{at, Below}
+use Rattle.basics.specs.Decides.{decides-yes, equal-to, same-as}
+use Rattle.queue.specs.Layout.SoundnessFacts.{at}
+use Rattle.queue.specs.Layout.NewIds.{HaveId, none-have, one-more-place}
 use Rattle.queue.proofs.soundness.id_is_new.Statement.{statement}
 use Rattle.queue.proofs.soundness.id_is_new.Tie as tie
 
 abbrev Inv-loop : tie.InvT-loop
-Inv-loop ids i id j₀ j = (j ≤ i) × Below j (λ k. at ids k ≡ id → ⊥)
+Inv-loop ids i id n₀ j₀ n j = (j ≤ i) × HaveId (at ids) id j n
 
 abbrev μ-loop : tie.MeasureT-loop
-μ-loop ids i id j₀ j = i - j
+μ-loop ids i id n₀ j₀ n j = i - j
 
 mul-id : tie.Need-mul-id Inv-loop μ-loop
 mul-id c = search needs
@@ -26,28 +25,32 @@ returns : tie.Need-returns Inv-loop μ-loop
 returns c = decides-yes (λ holds. absurd (lt-irrefl _ (lt-of-lt-of-le (c .if1 .taken) holds)))
 
 loop-holds : tie.Need-loop-holds Inv-loop μ-loop
-loop-holds c = (omega arith, below-none _)
+loop-holds c = (omega arith, none-have _ _)
 
-mul-other : tie.Need-mul-other Inv-loop μ-loop
-mul-other c = search needs
+mul-same-id : tie.Need-mul-same-id Inv-loop μ-loop
+mul-same-id c = search needs
 
-element-copy-out-other : tie.Need-element-copy-out-other Inv-loop μ-loop
-element-copy-out-other c = omega arith
+element-copy-out-same-id : tie.Need-element-copy-out-same-id Inv-loop μ-loop
+element-copy-out-same-id c = omega arith
 
-returns-2 : tie.Need-returns-2 Inv-loop μ-loop
-returns-2 c = decides-no (λ new. new (c .before .before .before .before .if1 .left) _ (c .before .before .loop-test .taken) (c .if2 .taken))
+same-id-requires : tie.Need-same-id-requires Inv-loop μ-loop
+same-id-requires c κs = tt
+
+add-n : tie.Need-add-n Inv-loop μ-loop
+add-n c = omega (arith, one-more-place _ _ _ _ _ (c .before .before .before .loop .inv .1) (c .same-id .ensures) .few, c .before .before .loop-test .taken, c .before .before .before .before .before .before .pre)
 
 add-j : tie.Need-add-j Inv-loop μ-loop
-add-j c = omega arith
+add-j c = omega (arith, c .before .before .loop-test .taken, c .before .before .before .before .before .before .pre)
 
 loop-less : tie.Need-loop-less Inv-loop μ-loop
 loop-less c = omega arith
 
 loop-again : tie.Need-loop-again Inv-loop μ-loop
-loop-again c = (omega arith, below-more _ _ (c .before .before .before .loop .inv .1) (c .if2 .left))
+loop-again c = (omega arith, one-more-place _ _ _ _ _ (c .before .before .before .loop .inv .1) (c .same-id .ensures))
 
-returns-3 : tie.Need-returns-3 Inv-loop μ-loop
-returns-3 c = decides-yes (λ _ k l. c .before .loop .inv .1 k (omega arith))
+returns-2 : tie.Need-returns-2 Inv-loop μ-loop
+returns-2 c =
+    same-as (λ zero _ k low. c .before .loop .inv .1 .none zero k (omega (arith, low, c .loop-test .left))) (λ new. c .before .loop .inv .1 .some (λ k low. new (c .before .before .if1 .left) k (omega (arith, low, c .before .loop .inv .0)))) (equal-to (c .before .loop .n) 0)
 
 pub id-is-new-spec : {M : Type 1} → statement M
 id-is-new-spec =
@@ -59,10 +62,11 @@ id-is-new-spec =
     element-copy-out-id
     returns
     loop-holds
-    mul-other
-    element-copy-out-other
-    returns-2
+    mul-same-id
+    element-copy-out-same-id
+    same-id-requires
+    add-n
     add-j
     loop-less
     loop-again
-    returns-3)
+    returns-2)

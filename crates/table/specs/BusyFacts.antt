@@ -11,9 +11,9 @@ use Rattle.rules.specs.Demand.{demand}
 use Rattle.rules.specs.Sums.{AllWellFormed}
 use Rattle.rules.specs.CountBy.{count-by-demand, count-by-most-in}
 use Rattle.rules.specs.Busy.{IsBusy, busy-settles-demand, frame-busy}
-use Rattle.table.specs.Table.{streams-of, stream-at, CanRead, IsColumn}
+use Rattle.table.specs.Table.{streams-of, stream-at}
 use Rattle.table.specs.Range.{StreamInRange}
-use Rattle.table.specs.Lengths.{HasPeriods, IsWalk, IsAdvance, CanTestDemand, IsBusyLength}
+use Rattle.table.specs.Lengths.{HasPeriods, CanNarrow, IsNarrow, IsWalk, IsAdvance, CanTestDemand, IsBusyLength}
 use Rattle.table.specs.TableFacts.{stream-at-mem}
 use Rattle.table.specs.LengthFacts.{walk-begins, walk-goes-on}
 use Rattle.table.specs.declared.Table.{Table}
@@ -101,18 +101,19 @@ module _ (b F : ℕ) (table : Table) (can : CanTestDemand b F table) where
     in-range : (k : ℕ) → k < table .count → StreamInRange F (stream-at table k)
     in-range k low = can .streams (stream-at table k) (stream-at-mem table table-within k low)
 
-    pub can-read-periods : CanRead Period table
-    can-read-periods = record { count = can .count; small = λ k low. omega (arith, in-range k low .period) }
+    pub can-narrow-periods : CanNarrow Period table 0
+    can-narrow-periods = record { count = can .count; fits = omega arith; near = λ k low. (omega arith, omega (arith, in-range k low .period)) }
 
-    pub can-read-deadlines : CanRead Deadline table
-    can-read-deadlines = record { count = can .count; small = λ k low. omega (arith, in-range k low .deadline, in-range k low .period) }
+    pub can-narrow-deadlines : CanNarrow Deadline table 0
+    can-narrow-deadlines =
+        record { count = can .count; fits = omega arith; near = λ k low. (omega arith, omega (arith, in-range k low .deadline, in-range k low .period)) }
 
-    pub test-begins : {periods dues : List ℕ} → IsColumn Period table periods → length dues ≡ 64 → IsColumn Deadline table dues
+    pub test-begins : {periods dues : List ℕ} → IsNarrow Period table 0 periods → length dues ≡ 64 → IsNarrow Deadline table 0 dues
         → TestedTo b F table periods dues 0 (replicate 64 1) 0 0
     test-begins {periods} {dues} column sixty-four deadlines = record {
       within = omega arith;
       has = has;
-      due-walk = walk-begins has (λ s. s .deadline) 0 (λ k low. in-range k low .deadline .0) dues sixty-four deadlines;
+      due-walk = walk-begins has (λ s. s .deadline) 0 (λ k low. in-range k low .deadline .0) dues sixty-four (λ k low. omega (arith, deadlines k low));
       all-walk = walk-begins has (λ s. 1) 0 (λ k low. omega arith) (replicate 64 1) refl (λ k low. getD-replicate 64 k 1 0 (omega (arith, can .count)));
       due-few = omega arith;
       all-few = omega arith;
@@ -120,4 +121,4 @@ module _ (b F : ℕ) (table : Table) (can : CanTestDemand b F table) where
     }
       where
         has : HasPeriods table periods
-        has = record { count = can .count; within = table-within; column = column; range = λ k low. in-range k low .period }
+        has = record { count = can .count; within = table-within; column = λ k low. omega (arith, column k low); range = λ k low. in-range k low .period }

@@ -147,7 +147,7 @@ module _ {periods : List ℕ} {n t : ℕ} {times₀ times : List ℕ} {sum i : �
       }
 
 module _ {table : Table} {periods : List ℕ} (has : HasPeriods table periods) where
-  pub can-advance : {first : Stream → ℕ} {u sum t : ℕ} {times : List ℕ} → IsWalk first table u times sum → t ≤ 2_000_000_000
+  pub can-advance : {first : Stream → ℕ} {u sum t : ℕ} {times : List ℕ} → IsWalk first table u times sum → t ≤ 60_000
       → CanAdvance periods times (table .count) t
   can-advance walk near = record { count = has .count; room = walk .room; short = λ k low. omega (arith, has .column k low, has .range k low); near = near }
 

@@ -2,16 +2,17 @@
 use mathlib.Core.Path.{_≡_}
 use mathlib.Core.Logic.{ite}
 use mathlib.Core.List.{List, List·Mem}
-use Prim.Native.Nat.{ℕ, zero, suc, _+_, _*_, _≤_, _<_}
+use Prim.Native.Nat.{ℕ, zero, suc, _+_, _-_, _*_, _≤_, _<_}
 use native.Mathlib.Decide.{ℕ-discrete}
 use lib.ListN.{getD, length}
 use Rattle.rules.specs.Streams.{Stream, WellFormed}
 use Rattle.rules.specs.Demand.{packets-by, DemandRule, StartRule, IsLazyStart}
 use Rattle.rules.specs.CountBy.{count-by}
 use Rattle.rules.specs.Busy.{IsBusy}
-use Rattle.table.specs.Table.{streams-of, stream-at, IsColumn}
+use Rattle.table.specs.Table.{streams-of, stream-at, value-of, IsColumn}
 use Rattle.table.specs.Range.{StreamInRange, AreNear}
 use Rattle.table.specs.declared.Table.{Table}
+use Rattle.table.specs.declared.Column.{Column}
 use Rattle.table.specs.declared.Column.the-variants.{Period}
 
 -- The busy length of the table, or 0 where the demand rule fails.
@@ -62,6 +63,16 @@ pub record HasPeriods (table : Table) (periods : List ℕ) : Type 0 where
   pub column : IsColumn Period table periods
   pub range : (k : ℕ) → k < table .count → (1 ≤ stream-at table k .period) × (stream-at table k .period ≤ 240)
 
+-- What narrowing a column relies on: none of its values is below the base, or more than 60,000 above it.
+pub record CanNarrow (column : Column) (table : Table) (base : ℕ) : Type 0 where
+  pub count : table .count ≤ 64
+  pub fits : base ≤ 1_900_000_000
+  pub near : (k : ℕ) → k < table .count → (base ≤ value-of column (stream-at table k)) × (value-of column (stream-at table k) ≤ base + 60_000)
+
+-- The values of a column less a base, stream by stream.
+abbrev pub IsNarrow : Column → Table → ℕ → List ℕ → Type 0
+IsNarrow column table base r = (k : ℕ) → k < table .count → getD r k 0 ≡ value-of column (stream-at table k) - base
+
 -- How many due times of one stream, the next of them at `time`, the length t adds ..
 unfoldable pub hits : ℕ → ℕ → ℕ
 hits time t = ite (ℕ-discrete time t) 1 0
@@ -80,7 +91,7 @@ pub record CanAdvance (periods times : List ℕ) (n t : ℕ) : Type 0 where
   pub count : n ≤ 64
   pub room : n ≤ length times
   pub short : (k : ℕ) → k < n → getD periods k 0 ≤ 240
-  pub near : t ≤ 2_000_000_000
+  pub near : t ≤ 60_000
 
 -- One length further, to t: the first n times move on, and r of them were at t.
 pub record IsAdvance (periods times : List ℕ) (n t : ℕ) (later : List ℕ) (r : ℕ) : Type 0 where

@@ -1,6 +1,6 @@
 -- The search for the next start over a table: what it may rely on, and what each length that it looks at adds.
 use mathlib.Core.Path.{_≡_, refl, sym, subst, ap, _∙_}
-use mathlib.Core.List.{List}
+use mathlib.Core.List.{List, [], _∷_, List·Mem}
 use Prim.Native.Nat.{ℕ, _+_, _-_, _*_, _≤_, _<_, min}
 use native.Mathlib.Bridge.{le-prop}
 use native.Mathlib.Nat.{le-trans, lt-irrefl, mul-le-mul-left, mul-le-mul-right}
@@ -8,15 +8,15 @@ use native.Mathlib.Decide.{decLt}
 use native.Mathlib.Omega.{arith}
 use lib.ListN.{length}
 use Rattle.rules.specs.Streams.{Stream, due}
-use Rattle.rules.specs.Demand.{future, ceil}
-use Rattle.rules.specs.Division.{ceil-least, ceil-enough}
-use Rattle.rules.specs.CountBy.{count-by-future}
-use Rattle.rules.specs.Sums.{AllWellFormed, future-counts, future-mono}
-use Rattle.table.specs.Table.{streams-of, stream-at, CanRead, IsColumn}
-use Rattle.table.specs.Lengths.{CanFindStart, IsNextStart, IsWalk, IsAdvance}
+use Rattle.rules.specs.Demand.{packets-by, future, ceil}
+use Rattle.rules.specs.Division.{packets-quotient, ceil-least, ceil-enough}
+use Rattle.rules.specs.CountBy.{count-by}
+use Rattle.rules.specs.Sums.{AllWellFormed, first-of, rest-of, period-positive, future-counts, future-mono}
+use Rattle.table.specs.Table.{streams-of, stream-at}
+use Rattle.table.specs.Lengths.{CanFindStart, IsNextStart, CanNarrow, IsNarrow, IsWalk, IsAdvance}
 use Rattle.table.specs.TableFacts.{stream-at-mem, all-streams}
 use Rattle.table.specs.LengthFacts.{walk-begins, walk-goes-on}
-use Rattle.table.specs.Start.{IsLeastOf, CanLookFrom}
+use Rattle.table.specs.Start.{IsLeastOf, due-from, CanLookFrom}
 use Rattle.table.specs.StartFacts.{Looked, looked-more, looked-all, found-none, nothing-due}
 use Rattle.table.specs.declared.Table.{Table}
 use Rattle.table.specs.declared.Column.the-variants.{Period, Due}
@@ -39,34 +39,50 @@ module _ {b x cap T : ℕ} {table : Table} (can : CanFindStart b x cap T table) 
         let m = stream-at-mem table within k below in
         (can .near .due-after (stream-at table k) m, omega (arith, can .near .released (stream-at table k) m, can .formed (stream-at table k) m))
 
-    pub can-read-due : CanRead Due table
-    can-read-due = record { count = can .count; small = λ k below. omega (arith, due-near k below, can .now) }
+    pub can-narrow-due : CanNarrow Due table x
+    can-narrow-due =
+        record { count = can .count; fits = omega (arith, can .now); near = λ k below. let near = due-near k below in (omega arith, omega arith) }
 
     period-range : (k : ℕ) → k < table .count → (1 ≤ stream-at table k .period) × (stream-at table k .period ≤ 240)
     period-range k below = let formed = can .formed (stream-at table k) (stream-at-mem table within k below) in (omega arith, formed .1)
 
-    pub can-read-period : CanRead Period table
-    can-read-period = record { count = can .count; small = λ k below. omega (arith, period-range k below) }
+    pub can-narrow-period : CanNarrow Period table 0
+    can-narrow-period = record { count = can .count; fits = omega arith; near = λ k below. (omega arith, omega (arith, period-range k below)) }
 
     -- the least due time of the table is where to begin
-    pub can-look : {periods dues : List ℕ} {first : ℕ} → IsColumn Period table periods → IsColumn Due table dues → IsLeastOf dues (table .count) first
-        → CanLookFrom b x cap first T table periods dues
-    can-look {periods} {dues} {first} period-column column least =
+    pub can-look : {periods dues : List ℕ} {least : ℕ} → IsNarrow Period table 0 periods → IsNarrow Due table x dues → IsLeastOf dues (table .count) least
+        → CanLookFrom b x cap (x + least) T table periods dues
+    can-look {periods} {dues} {least} period-column column is-least =
         record {
           can = can;
-          has = record { count = can .count; within = within; column = period-column; range = period-range };
+          has = record { count = can .count; within = within; column = λ k below. omega (arith, period-column k below); range = period-range };
           column = column;
-          before = all-streams (λ (s : Stream). first ≤ due s) (λ s. le-prop) table within (λ k below. omega (arith, least .at-most k below, column k below));
-          counts = future-counts (streams-of table) well-formed (stream-at table place) (stream-at-mem table within place (least .reached .1)) first (omega (arith, here));
-          after = omega (arith, here, due-near place (least .reached .1));
-          near = omega (arith, here, due-near place (least .reached .1));
+          before = all-streams (λ (s : Stream). x + least ≤ due s) (λ s. le-prop) table within
+              (λ k below. omega (arith, is-least .at-most k below, column k below, due-near k below));
+          counts = future-counts (streams-of table) well-formed (stream-at table place) (stream-at-mem table within place (is-least .reached .1)) (x + least) (omega (arith, here));
+          after = omega (arith, here, due-near place (is-least .reached .1));
+          near = omega (arith, here, due-near place (is-least .reached .1));
         }
       where
         place : ℕ
-        place = least .reached .0
+        place = is-least .reached .0
 
-        here : first ≡ due (stream-at table place)
-        here = least .reached .2 ∙ column place (least .reached .1)
+        here : x + least ≡ due (stream-at table place)
+        here = omega (arith, is-least .reached .2, column place (is-least .reached .1), due-near place (is-least .reached .1))
+
+-- counted from a base on, as many packets are due
+packets-from : (p : ℕ) → 1 ≤ p → (base d t : ℕ) → base ≤ d → base ≤ t → packets-by p (d - base) (t - base) ≡ packets-by p d t
+packets-from p positive base d t first-on on =
+    let e : t - base + p - (d - base) ≡ t + p - d = omega arith in
+    rw (packets-quotient p positive (d - base) (t - base), packets-quotient p positive d t, e)
+
+future-from : (ss : List Stream) (base t : ℕ) → base ≤ t → AllWellFormed ss → ((s : Stream) → List·Mem s ss → base < due s)
+    → count-by (due-from base) ss (t - base) ≡ future ss t
+unfolding count-by future
+future-from [] base t on all late = refl
+future-from (s ∷ ss) base t on all late =
+    let here = packets-from (s .period) (period-positive s (first-of all)) base (due s) t (omega (arith, first-of late)) on in
+    rw (here, future-from ss base t on (rest-of all) (rest-of late))
 
 -- rounds that hold fewer packets than there are do not suffice
 pub too-few-rounds : {b m n : ℕ} → 1 ≤ b → b * n < m → n < ceil m b
@@ -83,24 +99,27 @@ few-rounds b m positive = let enough : 1 * m ≤ b * m = mul-le-mul-right m posi
 
 module _ {b x cap first T : ℕ} {table : Table} {periods dues : List ℕ} (can : CanLookFrom b x cap first T table periods dues) where
   -- before the first due time nothing has been counted
-  pub begins : length dues ≡ 64 → IsWalk due table (first - 1) dues 0
+  pub begins : length dues ≡ 64 → IsWalk (due-from x) table (first - x - 1) dues 0
   begins size =
-      walk-begins (can .has) due (first - 1)
+      walk-begins (can .has) (due-from x) (first - x - 1)
       (λ k below. omega (arith, can .before (stream-at table k) (stream-at-mem table (can .has .within) k below), can .after)) dues size (can .column)
 
   -- where a walk stands when it has gone on to t
-  pub walked : {times later : List ℕ} {sum r t : ℕ} → (before : ℕ) × (before + 1 ≡ t) × IsWalk due table before times sum
-      → IsAdvance periods times (table .count) t later r → IsWalk due table t later (sum + r)
+  pub walked : {times later : List ℕ} {sum r t : ℕ} → (before : ℕ) × (before + 1 ≡ t) × IsWalk (due-from x) table before times sum
+      → IsAdvance periods times (table .count) t later r → IsWalk (due-from x) table t later (sum + r)
   walked {times} {later} {sum} {r} (before, next, walk) on =
-      subst (λ (u : ℕ). IsWalk due table u later (sum + r)) next
+      subst (λ (u : ℕ). IsWalk (due-from x) table u later (sum + r)) next
       (walk-goes-on (can .has) walk (subst (λ (u : ℕ). IsAdvance periods times (table .count) u later r) (sym next) on))
 
   some-due : (t : ℕ) → first ≤ t → 0 < future (streams-of table) t
   some-due t on = le-trans (can .counts) (future-mono (streams-of table) (well-formed (can .can)) first t on)
 
-  module _ {t n sum : ℕ} {times : List ℕ} (walk : IsWalk due table t times sum) (parts : n ≡ ceil sum b) (on : first ≤ t) where
+  module _ {t n sum : ℕ} {times : List ℕ} (walk : IsWalk (due-from x) table (t - x) times sum) (parts : n ≡ ceil sum b) (on : first ≤ t) where
     needed : n ≡ ceil (future (streams-of table) t) b
-    needed = parts ∙ ap (λ (m : ℕ). ceil m b) (walk .counted ∙ count-by-future (streams-of table) t)
+    needed =
+        parts
+        ∙ ap (λ (m : ℕ). ceil m b)
+        (walk .counted ∙ future-from (streams-of table) x t (omega (arith, can .after)) (well-formed (can .can)) (can .can .near .due-after))
 
     -- no start at now or later leaves the rounds that the packets due by t need ..
     pub stops : t < x + n → IsNextStart b x cap (streams-of table) 0

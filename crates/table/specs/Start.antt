@@ -1,12 +1,12 @@
 -- What the search for the next start hands from one part to the next.
 use mathlib.Core.Path.{_≡_}
 use mathlib.Core.List.{List, List·Mem}
-use Prim.Native.Nat.{ℕ, _+_, _≤_, _<_}
+use Prim.Native.Nat.{ℕ, _+_, _-_, _≤_, _<_}
 use lib.ListN.{getD}
 use Rattle.rules.specs.Streams.{Stream, due}
 use Rattle.rules.specs.Demand.{future, ceil}
-use Rattle.table.specs.Table.{streams-of, IsColumn}
-use Rattle.table.specs.Lengths.{CanFindStart, HasPeriods}
+use Rattle.table.specs.Table.{streams-of}
+use Rattle.table.specs.Lengths.{CanFindStart, HasPeriods, IsNarrow}
 use Rattle.table.specs.declared.Table.{Table}
 use Rattle.table.specs.declared.Column.the-variants.{Due}
 
@@ -21,11 +21,15 @@ pub record CanCountRounds (needed packets b : ℕ) : Type 0 where
   pub few : packets ≤ 1_000_000
   pub low : needed ≤ ceil packets b
 
--- What the search relies on that knows the due times: `first` is the least of them.
+-- How long after x a stream's first unserved packet is due.
+abbrev pub due-from : ℕ → Stream → ℕ
+due-from x s = due s - x
+
+-- What the search relies on that knows the due times, less now: `first` is the least due time.
 pub record CanLookFrom (b x latest first T : ℕ) (table : Table) (periods dues : List ℕ) : Type 0 where
   pub can : CanFindStart b x latest T table
   pub has : HasPeriods table periods
-  pub column : IsColumn Due table dues
+  pub column : IsNarrow Due table x dues
   pub before : (s : Stream) → List·Mem s (streams-of table) → first ≤ due s
   pub counts : 0 < future (streams-of table) first
   pub after : x < first

@@ -16,9 +16,9 @@ use Rattle.rules.specs.LazyStart.{least-of, latest, latest-some, lazy-start, Is
 use Rattle.table.specs.Lengths.{IsNextStart}
 use Rattle.table.specs.Start.{IsLeastOf}
 
-pub least-one : (values : List ℕ) → IsLeastOf values 1 (getD values 0 0)
-least-one values =
-    record { at-most = λ k below. let e : k ≡ 0 = omega arith in rw e (omega arith); reached = (0, omega arith, refl) }
+pub least-one : {values : List ℕ} {m : ℕ} → m ≡ getD values 0 0 → IsLeastOf values 1 m
+least-one e =
+    record { at-most = λ k below. let first : k ≡ 0 = omega arith in rw first (omega (arith, e)); reached = (0, omega arith, e) }
 
 pub least-more : {values : List ℕ} {n m r : ℕ} → IsLeastOf values n m → r ≡ min (getD values n 0) m → IsLeastOf values (n + 1) r
 least-more {values} {n} {m} {r} least e =

@@ -1,14 +1,30 @@
-// Sums over the table, carried from one length to the next: each due time counts when its length comes.
+// Sums over the table, carried from one length to the next: each due time counts when its length comes. All of `advance` is in 16 bits,
+// so that eight streams fit a vector register.
 ghost use mathlib.Core.Path.{_≡_};
 ghost use Prim.Native.Nat.{_≤_};
 ghost use Rattle.table.specs.Table.{streams-of};
-ghost use Rattle.table.specs.Lengths.{CanAdvance, IsAdvance, CanTestDemand, IsBusyLength, hits, after-hit};
+ghost use Rattle.table.specs.Lengths.{CanNarrow, IsNarrow, CanAdvance, IsAdvance, CanTestDemand, IsBusyLength, hits, after-hit};
 use super::Column;
 use super::Table;
 use super::column_in_range;
 
+// The values of a column less a base, in 16 bits.
+pub fn narrow_column_in_range(table: Table, column: Column, base: u32) -> [u16; 64]
+    requires { ⌜ CanNarrow column table base ⌝ }
+    ensures { λ r. ⌜ IsNarrow column table base r ⌝ }
+{
+    let values = column_in_range(table, column);
+    let mut narrow = [0u16; 64];
+    let mut i: usize = 0;
+    while i < table.count {
+        narrow[i] = (values[i] - base) as u16;
+        i += 1;
+    }
+    narrow
+}
+
 // How many due times of one stream t adds.
-fn hit(time: u32, t: u32) -> u32
+fn hit(time: u16, t: u16) -> u16
     ensures { λ r. ⌜ r ≡ hits time t ⌝ }
 {
     if time == t {
@@ -18,8 +34,8 @@ fn hit(time: u32, t: u32) -> u32
 }
 
 // The first due time of one stream that is not yet counted once t is.
-fn time_after(time: u32, t: u32, period: u32) -> u32
-    requires { ⌜ (t ≤ 2_000_000_000) × (period ≤ 240) ⌝ }
+fn time_after(time: u16, t: u16, period: u16) -> u16
+    requires { ⌜ (t ≤ 60_000) × (period ≤ 240) ⌝ }
     ensures { λ r. ⌜ r ≡ after-hit time t period ⌝ }
 {
     if time == t {
@@ -29,11 +45,11 @@ fn time_after(time: u32, t: u32, period: u32) -> u32
 }
 
 // One length further, to t: how many of the first `count` due times fall at t; those move on by their periods.
-pub fn advance(periods: &[u32; 64], times: &mut [u32; 64], count: usize, t: u32) -> u32
+pub fn advance(periods: &[u16; 64], times: &mut [u16; 64], count: usize, t: u16) -> u16
     requires { ⌜ CanAdvance (now periods) (now times) count t ⌝ }
     ensures { λ r. ⌜ IsAdvance (now (periods .entry)) (now (times .entry)) count t (now (times .exit)) r ⌝ }
 {
-    let mut sum: u32 = 0;
+    let mut sum: u16 = 0;
     let mut i: usize = 0;
     while i < count {
         let time = times[i];
@@ -49,19 +65,19 @@ pub fn busy_length_in_range(table: Table, slots: u32, frame: u32) -> u32
     requires { ⌜ CanTestDemand slots frame table ⌝ }
     ensures { λ r. ⌜ IsBusyLength slots (streams-of table) r ⌝ }
 {
-    let periods = column_in_range(table, Column::Period);
-    let mut dues = column_in_range(table, Column::Deadline);
-    let mut releases = [1u32; 64];
+    let periods = narrow_column_in_range(table, Column::Period, 0);
+    let mut dues = narrow_column_in_range(table, Column::Deadline, 0);
+    let mut releases = [1u16; 64];
     let mut due: u32 = 0;
     let mut all: u32 = 0;
     let mut t: u32 = 0;
     while t < frame {
         t += 1;
-        due += advance(&periods, &mut dues, table.count, t);
+        due += advance(&periods, &mut dues, table.count, t as u16) as u32;
         if slots * t < due {
             return 0;
         }
-        all += advance(&periods, &mut releases, table.count, t);
+        all += advance(&periods, &mut releases, table.count, t as u16) as u32;
         if all <= slots * t {
             return t;
         }

@@ -1,8 +1,8 @@
 // The start rule and the lazy rule on a table: the lengths looked at are a busy length of them from the first due time on.
 use super::Column;
 use super::Table;
-use super::column_in_range;
 use super::lengths::advance;
+use super::lengths::narrow_column_in_range;
 ghost use mathlib.Core.Path.{_≡_};
 ghost use Prim.Native.Nat.{_≤_, min};
 ghost use Rattle.rules.specs.Demand.{ceil};
@@ -19,15 +19,21 @@ fn lesser(x: u32, y: u32) -> u32
     x
 }
 
+fn wide(x: u16) -> u32
+    ensures { λ r. ⌜ r ≡ x ⌝ }
+{
+    x as u32
+}
+
 // The least of the first values.
-fn least_of(values: [u32; 64], count: usize) -> u32
+fn least_of(values: [u16; 64], count: usize) -> u32
     requires { ⌜ (1 ≤ count) × (count ≤ 64) ⌝ }
     ensures { λ r. ⌜ IsLeastOf values count r ⌝ }
 {
-    let mut least = values[0];
+    let mut least = wide(values[0]);
     let mut i: usize = 1;
     while i < count {
-        least = lesser(least, values[i]);
+        least = lesser(least, wide(values[i]));
         i += 1;
     }
     least
@@ -46,11 +52,11 @@ fn rounds_from(needed: u32, packets: u32, slots: u32) -> u32
     n
 }
 
-// What next_start_in_range answers, where `first` is the first due time.
+// What next_start_in_range answers, where `first` is the first due time, and `dues` are the due times less now.
 fn start_from(
     table: Table,
-    periods: [u32; 64],
-    dues: [u32; 64],
+    periods: [u16; 64],
+    dues: [u16; 64],
     slots: u32,
     now: u32,
     cap: u32,
@@ -67,7 +73,7 @@ fn start_from(
     let mut start = cap;
     let mut t = first;
     while t < end {
-        sum += advance(&periods, &mut times, table.count, t);
+        sum += advance(&periods, &mut times, table.count, (t - now) as u16) as u32;
         needed = rounds_from(needed, sum, slots);
         if t < now + needed {
             return 0;
@@ -86,8 +92,8 @@ pub fn next_start_in_range(table: Table, slots: u32, now: u32, cap: u32, busy: u
     if table.count == 0 {
         return cap;
     }
-    let periods = column_in_range(table, Column::Period);
-    let dues = column_in_range(table, Column::Due);
-    let first = least_of(dues, table.count);
+    let periods = narrow_column_in_range(table, Column::Period, 0);
+    let dues = narrow_column_in_range(table, Column::Due, now);
+    let first = now + least_of(dues, table.count);
     start_from(table, periods, dues, slots, now, cap, first, busy)
 }

@@ -1,9 +1,9 @@
 -- `table::lengths::busy_length_in_range` meets its contract: the two walks are at t, and the demand rule holds up to t.
 use Prim.Native.Nat.{_-_}
 use native.Mathlib.Omega.{arith}
-use mir.Syntax.{w32}
+use mir.Syntax.{w16}
 use borrow.Kind.Array.{good-length, eInt}
-use Rattle.table.specs.BusyFacts.{TestedTo, slots-fit, rule-fails, one-length-more, busy-found, frame-reached, can-read-periods, can-read-deadlines, test-begins}
+use Rattle.table.specs.BusyFacts.{TestedTo, slots-fit, rule-fails, one-length-more, busy-found, frame-reached, can-narrow-periods, can-narrow-deadlines, test-begins}
 use Rattle.table.specs.LengthFacts.{can-advance}
 use Rattle.table.proofs.Shape.{table-shape}
 use Rattle.table.proofs.lengths.busy_length_in_range.Statement.{statement}
@@ -15,22 +15,28 @@ Inv-loop table slots frame periods dues₀ releases₀ due₀ all₀ t₀ dues r
 abbrev μ-loop : tie.MeasureT-loop
 μ-loop table slots frame periods dues₀ releases₀ due₀ all₀ t₀ dues releases due all t = frame - t
 
-column-in-range-requires : tie.Need-column-in-range-requires Inv-loop μ-loop
-column-in-range-requires c κs = can-read-periods _ _ _ (c .pre) (table-shape (c .args .table) _ (c .good .0))
+narrow-column-in-range-requires : tie.Need-narrow-column-in-range-requires Inv-loop μ-loop
+narrow-column-in-range-requires c κs = can-narrow-periods _ _ _ (c .pre) (table-shape (c .args .table) _ (c .good .0))
 
-column-in-range-requires-2 : tie.Need-column-in-range-requires-2 Inv-loop μ-loop
-column-in-range-requires-2 c κs = can-read-deadlines _ _ _ (c .before .pre) (table-shape (c .before .args .table) _ (c .before .good .0))
+narrow-column-in-range-requires-2 : tie.Need-narrow-column-in-range-requires-2 Inv-loop μ-loop
+narrow-column-in-range-requires-2 c κs = can-narrow-deadlines _ _ _ (c .before .pre) (table-shape (c .before .args .table) _ (c .before .good .0))
 
 loop-holds : tie.Need-loop-holds Inv-loop μ-loop
 loop-holds c =
-    test-begins _ _ _ (c .before .before .pre) (table-shape (c .before .before .args .table) _ (c .before .before .good .0)) (c .before .column-in-range .ensures)
-    (good-length (eInt w32) 64 (c .column-in-range2 .result) _ (c .column-in-range2 .ok)) (c .column-in-range2 .ensures)
+    test-begins _ _ _ (c .before .before .pre) (table-shape (c .before .before .args .table) _ (c .before .before .good .0)) (c .before .narrow-column-in-range .ensures)
+    (good-length (eInt w16) 64 (c .narrow-column-in-range2 .result) _ (c .narrow-column-in-range2 .ok)) (c .narrow-column-in-range2 .ensures)
 
 add-t : tie.Need-add-t Inv-loop μ-loop
 add-t c = omega (arith, c .before .before .before .before .pre .frame)
 
+cast-advance : tie.Need-cast-advance Inv-loop μ-loop
+cast-advance c = omega (arith, c .before .before .before .before .before .before .pre .frame .1)
+
 advance-requires : tie.Need-advance-requires Inv-loop μ-loop
 advance-requires c κs = can-advance (c .before .before .before .loop .inv .has) (c .before .before .before .loop .inv .due-walk) (omega (arith, c .before .before .before .before .before .before .pre .frame .1))
+
+cast-due : tie.Need-cast-due Inv-loop μ-loop
+cast-due c = omega (arith, c .advance .ensures .few, c .before .before .before .before .before .before .before .pre .count)
 
 add-due : tie.Need-add-due Inv-loop μ-loop
 add-due c = omega (arith, c .advance .ensures .few, c .before .before .before .before .loop .inv .due-few, c .before .before .before .before .before .before .before .pre .count, c .before .before .before .before .before .before .before .pre .frame .1)
@@ -41,8 +47,14 @@ mul-if1 c = omega (arith, slots-fit _ _ _ (c .before .before .before .before .be
 returns : tie.Need-returns Inv-loop μ-loop
 returns c = rule-fails _ _ _ (c .before .before .before .before .before .before .before .before .pre) (c .before .before .before .before .before .loop .inv) (c .before .advance .ensures) (c .if1 .taken)
 
+cast-advance-2 : tie.Need-cast-advance-2 Inv-loop μ-loop
+cast-advance-2 c = omega (arith, c .before .before .before .before .before .before .before .before .before .before .pre .frame .1)
+
 advance-requires-2 : tie.Need-advance-requires-2 Inv-loop μ-loop
 advance-requires-2 c κs = can-advance (c .before .before .before .before .before .before .before .loop .inv .has) (c .before .before .before .before .before .before .before .loop .inv .all-walk) (omega (arith, c .before .before .before .before .before .before .before .before .before .before .pre .frame .1))
+
+cast-all : tie.Need-cast-all Inv-loop μ-loop
+cast-all c = omega (arith, c .advance2 .ensures .few, c .before .before .before .before .before .before .before .before .before .before .before .pre .count)
 
 add-all : tie.Need-add-all Inv-loop μ-loop
 add-all c = omega (arith, c .advance2 .ensures .few, c .before .before .before .before .before .before .before .before .loop .inv .all-few, c .before .before .before .before .before .before .before .before .before .before .before .pre .count, c .before .before .before .before .before .before .before .before .before .before .before .pre .frame .1)
@@ -69,15 +81,19 @@ busy-length-in-range-spec =
     (tie.spec
     Inv-loop
     μ-loop
-    column-in-range-requires
-    column-in-range-requires-2
+    narrow-column-in-range-requires
+    narrow-column-in-range-requires-2
     loop-holds
     add-t
+    cast-advance
     advance-requires
+    cast-due
     add-due
     mul-if1
     returns
+    cast-advance-2
     advance-requires-2
+    cast-all
     add-all
     mul-if2
     returns-2

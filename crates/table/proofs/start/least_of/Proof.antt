@@ -13,17 +13,23 @@ Inv-loop count values least₀ i₀ least i = (1 ≤ i) × ((i ≤ count) × IsL
 abbrev μ-loop : tie.MeasureT-loop
 μ-loop count values least₀ i₀ least i = count - i
 
-array-read-least : tie.Need-array-read-least Inv-loop μ-loop
-array-read-least c = search needs
+array-read-wide : tie.Need-array-read-wide Inv-loop μ-loop
+array-read-wide c = search needs
+
+wide-requires : tie.Need-wide-requires Inv-loop μ-loop
+wide-requires c κs = search needs
 
 loop-holds : tie.Need-loop-holds Inv-loop μ-loop
-loop-holds c = (omega arith, (omega arith, least-one _))
+loop-holds c = (omega arith, (omega arith, least-one (c .wide .ensures)))
 
-mul-lesser : tie.Need-mul-lesser Inv-loop μ-loop
-mul-lesser c = search needs
+mul-wide : tie.Need-mul-wide Inv-loop μ-loop
+mul-wide c = search needs
 
-array-read-lesser : tie.Need-array-read-lesser Inv-loop μ-loop
-array-read-lesser c = search needs
+array-read-wide-2 : tie.Need-array-read-wide-2 Inv-loop μ-loop
+array-read-wide-2 c = search needs
+
+wide-requires-2 : tie.Need-wide-requires-2 Inv-loop μ-loop
+wide-requires-2 c κs = search needs
 
 lesser-requires : tie.Need-lesser-requires Inv-loop μ-loop
 lesser-requires c κs = search needs
@@ -35,7 +41,7 @@ loop-less : tie.Need-loop-less Inv-loop μ-loop
 loop-less c = search needs
 
 loop-again : tie.Need-loop-again Inv-loop μ-loop
-loop-again c = (omega arith, (omega arith, least-more (c .before .before .loop .inv .1 .1) (c .lesser .ensures)))
+loop-again c = (omega arith, (omega arith, least-more (c .before .before .before .loop .inv .1 .1) (omega (arith, c .lesser .ensures, c .before .wide2 .ensures))))
 
 returns : tie.Need-returns Inv-loop μ-loop
 returns c = least-all (omega arith) (c .before .loop .inv .1 .1)
@@ -46,10 +52,12 @@ least-of-spec =
     (tie.spec
     Inv-loop
     μ-loop
-    array-read-least
+    array-read-wide
+    wide-requires
     loop-holds
-    mul-lesser
-    array-read-lesser
+    mul-wide
+    array-read-wide-2
+    wide-requires-2
     lesser-requires
     add-i
     loop-less

@@ -1,7 +1,7 @@
 -- `table::start::next_start_in_range` meets its contract: an empty table leaves the cap, and else the search begins at the least due time.
 use native.Mathlib.Omega.{arith}
 use borrow.Author.Needs.{needs}
-use Rattle.table.specs.SearchFacts.{empty-table, can-read-period, can-read-due, can-look}
+use Rattle.table.specs.SearchFacts.{empty-table, can-narrow-period, can-narrow-due, can-look}
 use Rattle.table.proofs.Shape.{table-holds}
 use Rattle.table.proofs.start.next_start_in_range.Statement.{statement}
 use Rattle.table.proofs.start.next_start_in_range.Tie as tie
@@ -9,18 +9,21 @@ use Rattle.table.proofs.start.next_start_in_range.Tie as tie
 returns : tie.Need-returns
 returns c = empty-table (c .before .before .pre) (c .if1 .taken)
 
-column-in-range-requires : tie.Need-column-in-range-requires
-column-in-range-requires c κs = can-read-period (c .before .before .pre) (table-holds (c .before .before .args .table) _ (c .before .before .good .0) (c .before .before .pre .count))
+narrow-column-in-range-requires : tie.Need-narrow-column-in-range-requires
+narrow-column-in-range-requires c κs = can-narrow-period (c .before .before .pre) (table-holds (c .before .before .args .table) _ (c .before .before .good .0) (c .before .before .pre .count))
 
-column-in-range-requires-2 : tie.Need-column-in-range-requires-2
-column-in-range-requires-2 c κs = can-read-due (c .before .before .before .pre) (table-holds (c .before .before .before .args .table) _ (c .before .before .before .good .0) (c .before .before .before .pre .count))
+narrow-column-in-range-requires-2 : tie.Need-narrow-column-in-range-requires-2
+narrow-column-in-range-requires-2 c κs = can-narrow-due (c .before .before .before .pre) (table-holds (c .before .before .before .args .table) _ (c .before .before .before .good .0) (c .before .before .before .pre .count))
 
 least-of-requires : tie.Need-least-of-requires
 least-of-requires c κs = search needs
 
 start-from-requires : tie.Need-start-from-requires
 start-from-requires c κs =
-    can-look (c .before .before .before .before .before .pre) (table-holds (c .before .before .before .before .before .args .table) _ (c .before .before .before .before .before .good .0) (c .before .before .before .before .before .pre .count)) (c .before .before .column-in-range .ensures) (c .before .column-in-range2 .ensures) (c .least-of .ensures)
+    can-look (c .before .before .before .before .before .pre) (table-holds (c .before .before .before .before .before .args .table) _ (c .before .before .before .before .before .good .0) (c .before .before .before .before .before .pre .count)) (c .before .before .narrow-column-in-range .ensures) (c .before .narrow-column-in-range2 .ensures) (c .least-of .ensures)
+
+add-first : tie.Need-add-first
+add-first c = omega (arith, start-from-requires c tt .near, c .before .before .before .before .before .pre .now)
 
 returns-2 : tie.Need-returns-2
 returns-2 c = search needs
@@ -30,8 +33,9 @@ next-start-in-range-spec =
     tie.close
     (tie.spec
     returns
-    column-in-range-requires
-    column-in-range-requires-2
+    narrow-column-in-range-requires
+    narrow-column-in-range-requires-2
     least-of-requires
+    add-first
     start-from-requires
     returns-2)

@@ -1,18 +1,18 @@
--- `table::start::start_from` meets its contract: the lengths before t have been looked at, the walk stands at the length before t, and the
--- rounds needed there are not too many for t.
-use mathlib.Core.Path.{_≡_, refl}
+-- `table::start::start_from` meets its contract: the lengths before t have been looked at, the walk stands at the length before t, both from
+-- now on, and the rounds needed there are not too many for t.
+use mathlib.Core.Path.{_≡_}
 use Prim.Native.Nat.{ℕ, _+_, _-_, _*_, _≤_}
 use native.Mathlib.Nat.{le-trans}
 use native.Mathlib.Omega.{arith}
-use mir.Syntax.{w32}
+use mir.Syntax.{w16}
 use borrow.Author.Needs.{needs}
 use borrow.Kind.Array.{good-length, eInt}
-use Rattle.rules.specs.Streams.{due}
 use Rattle.rules.specs.Demand.{ceil}
 use Rattle.rules.specs.Division.{div-mono}
 use Rattle.table.specs.Table.{streams-of}
 use Rattle.table.specs.Lengths.{IsWalk}
 use Rattle.table.specs.LengthFacts.{can-advance}
+use Rattle.table.specs.Start.{due-from}
 use Rattle.table.specs.StartFacts.{Looked, looked-none}
 use Rattle.table.specs.SearchFacts.{begins, few-rounds, walked, stops, goes-on, ends}
 use Rattle.table.proofs.start.start_from.Statement.{statement}
@@ -21,7 +21,7 @@ use Rattle.table.proofs.start.start_from.Tie as tie
 abbrev Inv-loop : tie.InvT-loop
 Inv-loop table slots now cap first busy periods end times₀ sum₀ needed₀ start₀ t₀ times sum needed start t =
     (first ≤ t) × (t ≤ first + busy) × (sum ≤ 64 * (t - first)) × (needed ≤ ceil sum slots) × Looked slots now cap (streams-of table) first t start
-    × ((before : ℕ) × (before + 1 ≡ t) × IsWalk due table before times sum)
+    × ((before : ℕ) × (before + 1 ≡ t - now) × IsWalk (due-from now) table before times sum)
 
 abbrev μ-loop : tie.MeasureT-loop
 μ-loop table slots now cap first busy periods end times₀ sum₀ needed₀ start₀ t₀ times sum needed start t = first + busy - t
@@ -31,11 +31,20 @@ add-end c = omega (arith, c .pre .near, c .pre .can .now, c .pre .can .short)
 
 loop-holds : tie.Need-loop-holds Inv-loop μ-loop
 loop-holds c =
-    let start = begins (c .pre) (good-length (eInt w32) 64 (c .args .dues) _ (c .good .1 .1 .0)) in
-    (omega arith, omega arith, omega arith, omega arith, looked-none _ _ _ _ _ (c .pre .can .cap), (c .args .first - 1, omega (arith, c .pre .after), start))
+    let start = begins (c .pre) (good-length (eInt w16) 64 (c .args .dues) _ (c .good .1 .1 .0)) in
+    (omega arith, omega arith, omega arith, omega arith, looked-none _ _ _ _ _ (c .pre .can .cap), (c .args .first - c .args .now - 1, omega (arith, c .pre .after), start))
+
+sub-advance : tie.Need-sub-advance Inv-loop μ-loop
+sub-advance c = omega (arith, c .before .before .before .before .pre .after)
+
+cast-advance : tie.Need-cast-advance Inv-loop μ-loop
+cast-advance c = omega (arith, c .before .before .before .before .pre .near, c .before .before .before .before .pre .can .short)
 
 advance-requires : tie.Need-advance-requires Inv-loop μ-loop
-advance-requires c κs = can-advance (c .before .before .before .before .pre .has) (c .before .before .before .loop .inv .5 .2) (omega (arith, c .before .before .before .before .pre .near, c .before .before .before .before .pre .can .now, c .before .before .before .before .pre .can .short))
+advance-requires c κs = can-advance (c .before .before .before .before .pre .has) (c .before .before .before .loop .inv .5 .2) (omega (arith, c .before .before .before .before .pre .near, c .before .before .before .before .pre .can .short))
+
+cast-sum : tie.Need-cast-sum Inv-loop μ-loop
+cast-sum c = omega (arith, c .advance .ensures .few, c .before .before .before .before .before .pre .can .count)
 
 add-sum : tie.Need-add-sum Inv-loop μ-loop
 add-sum c = omega (arith, c .advance .ensures .few, c .before .before .before .before .before .pre .can .count, c .before .before .before .before .before .pre .can .short)
@@ -75,7 +84,7 @@ loop-again c =
       omega (arith, c .before .before .before .advance .ensures .few, c .before .before .before .before .before .before .before .before .pre .can .count),
       omega (arith, c .before .before .rounds-from .ensures),
       goes-on (c .before .before .before .before .before .before .before .before .pre) walk (c .before .before .rounds-from .ensures) (c .before .before .before .before .before .before .before .loop .inv .0) (omega arith) (c .before .before .before .before .before .before .before .loop .inv .4) (c .lesser .ensures),
-      (_, refl, walk),
+      (c .before .before .before .before .before .before .before .loop .t - c .before .before .before .before .before .before .before .before .args .now, omega (arith, c .before .before .before .before .before .before .before .before .pre .after), walk),
     )
 
 returns-2 : tie.Need-returns-2 Inv-loop μ-loop
@@ -89,7 +98,10 @@ start-from-spec =
     μ-loop
     add-end
     loop-holds
+    sub-advance
+    cast-advance
     advance-requires
+    cast-sum
     add-sum
     rounds-from-requires
     add-if1

@@ -2,12 +2,15 @@
 //   plain      document 004's Algorithms 1 to 4 on a bucket queue, with nothing tested;
 //   analytic   formula (2), with a division for each stream and each length up to the superframe.
 // All three run the same calls on the same tables, in turn in one process, and must answer alike. A time is per call, the median of RUNS.
+// With `growth` it measures rounds where one of streams, slots, busy length and superframe is varied.
 // With `TABLE` it measures that table alone; with `TABLE CALL TURNS` it runs only the proved calls, for counting instructions.
 use std::hint::black_box;
 use std::time::Instant;
 
 #[path = "planner/analytic.rs"]
 mod analytic;
+#[path = "planner/growth.rs"]
+mod growth;
 #[path = "planner/plain.rs"]
 mod plain;
 #[path = "planner/proved.rs"]
@@ -110,12 +113,30 @@ fn measure(table: &str, busy: u32, case: &Case) {
     }
 }
 
+// A round's cost where one thing is varied.
+fn growth() {
+    println!("{:<8} {:>7} {:>5} {:>5} {:>5} {:>10} {:>10}", "varied", "streams", "slots", "busy", "frame", "proved ns", "plain ns");
+    for p in growth::points() {
+        let mut times = [vec![], vec![]];
+        for _ in 0..RUNS {
+            times[0].push(time(&p.proved, Call::Round, 400));
+            times[1].push(time(&p.plain, Call::Round, 400));
+        }
+        let [proved, plain] = times.map(median);
+        println!("{:<8} {:>7} {:>5} {:>5} {:>5} {:>10.0} {:>10.0}", p.varied, p.streams, p.slots, p.busy, p.frame, proved, plain);
+    }
+}
+
 fn main() {
     let words: Vec<String> = std::env::args().skip(1).collect();
     if let [table, call, turns] = &words[..] {
         let setup = tables::all(Some(table)).first().expect("a table").setup(Some(call));
         let case = setup.cases.iter().find(|c| c.name == *call).expect("a call");
         println!("{}", run(&case.hosts.proved, case.call, turns.parse().expect("turns")));
+        return;
+    }
+    if words == ["growth"] {
+        growth();
         return;
     }
     println!(

@@ -1,18 +1,19 @@
-// The tables that are measured: 8 and 64 streams at three loads, made with a fixed seed, after a long run of rounds.
+// The tables that are measured: 8 and 64 streams at three loads, and at a light load with long periods alone, made with a fixed seed,
+// after a long run of rounds.
 use super::analytic::Analytic;
 use super::plain::Plain;
 use super::proved::Planner;
 use super::{Call, Host, Offer};
 
 const FRAME: u32 = 5040;
-const GAP: u32 = 200;
-const ROUNDS: u32 = 1000;
+pub const GAP: u32 = 200;
+pub const ROUNDS: u32 = 1000;
 
-struct Random(u64);
+pub struct Random(pub u64);
 
 impl Random {
     // 0 to limit - 1.
-    fn below(&mut self, limit: u32) -> u32 {
+    pub fn below(&mut self, limit: u32) -> u32 {
         self.0 = self.0.wrapping_mul(6364136223846793005).wrapping_add(1442695040888963407);
         ((self.0 >> 33) % u64::from(limit)) as u32
     }
@@ -59,7 +60,7 @@ fn periods() -> Vec<u32> {
 }
 
 // The least length by which all that is released in it, from a common start, can be sent; none above the superframe.
-fn busy_length(slots: u32, periods: &[u32]) -> Option<u32> {
+pub fn busy_length(slots: u32, periods: &[u32]) -> Option<u32> {
     let mut t = 1;
     while t <= FRAME {
         let needed = periods.iter().map(|p| t.div_ceil(*p)).sum::<u32>().div_ceil(slots);
@@ -100,6 +101,21 @@ fn table(random: &mut Random, n: usize, load: &str, low: u32, high: u32) -> Tabl
     }
 }
 
+// No period below 60: there is little to send, and little for Algorithm 1 to count.
+fn long(random: &mut Random, n: usize) -> Table {
+    let from: Vec<u32> = periods().into_iter().filter(|p| *p >= 60).collect();
+    let periods: Vec<u32> = (0..n).map(|_| from[random.below(from.len() as u32) as usize]).collect();
+    let slots = n as u32 / 8;
+    let busy = busy_length(slots, &periods).expect("a busy length");
+    Table { name: format!("{n}-long"), slots, busy, periods }
+}
+
+// Slots and periods of n streams with a busy length in that range.
+pub fn of_busy_length(n: usize, low: u32, high: u32) -> (u32, Vec<u32>) {
+    let t = table(&mut Random(n as u64), n, "", low, high);
+    (t.slots, t.periods)
+}
+
 // Each table has a seed of its own, so that one can be made without the others.
 pub fn all(only: Option<&str>) -> Vec<Table> {
     let loads = [("light", 2, 8), ("medium", 20, 99), ("full", 4500, FRAME)];
@@ -109,6 +125,9 @@ pub fn all(only: Option<&str>) -> Vec<Table> {
             if only.is_none_or(|name| name == format!("{n}-{load}")) {
                 tables.push(table(&mut Random(n as u64), n, load, low, high));
             }
+        }
+        if only.is_none_or(|name| name == format!("{n}-long")) {
+            tables.push(long(&mut Random(n as u64), n));
         }
     }
     tables

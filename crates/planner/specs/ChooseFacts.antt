@@ -4,7 +4,7 @@ use mathlib.Core.Logic.{∥∥₁-elim}
 use mathlib.Core.HLevel.{¬-prop}
 use mathlib.Core.List.{List, [], _∷_, _++_, List·Mem, Pairwise·map}
 use mathlib.Mathlib.Data.List.Nodup.{inj-on-of-nodup-map}
-use Prim.Native.Nat.{ℕ, suc, _+_, _≤_, _<_}
+use Prim.Native.Nat.{ℕ, _+_, _≤_, _<_}
 use native.Mathlib.Nat.{lt-irrefl}
 use native.Mathlib.Numerals.{add-one}
 use native.Mathlib.Omega.{arith}

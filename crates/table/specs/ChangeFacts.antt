@@ -2,8 +2,8 @@
 use mathlib.Core.Path.{_≡_, refl, sym, ap, subst, _∙_}
 use mathlib.Core.HLevel.{¬-prop}
 use mathlib.Core.Logic.{by-cases, if-pos, if-neg, ∥∥₁-elim, Dec·not}
-use mathlib.Core.List.{List, [], _∷_, map, filter-eq-self, map-congr-left, map-id, List·Mem, mem-cons-self, mem-cons-of-mem, pairwise-cons, exists-of-mem-map, mem-map-of-mem}
-use Prim.Native.Nat.{ℕ, zero, suc, _+_, _≤_, _<_}
+use mathlib.Core.List.{List, [], _∷_, map, filter-eq-self, map-congr-left, map-id, List·Mem, pairwise-cons, exists-of-mem-map, mem-map-of-mem}
+use Prim.Native.Nat.{ℕ, zero, suc, _≤_, _<_}
 use native.Mathlib.Nat.{lt-irrefl}
 use native.Mathlib.Decide.{decLt, ℕ-discrete}
 use native.Mathlib.Omega.{arith}

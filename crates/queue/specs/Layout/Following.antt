@@ -7,7 +7,7 @@ use native.Mathlib.Bridge.{le-prop}
 use native.Mathlib.Nat.{lt-irrefl}
 use native.Mathlib.Omega.{arith}
 use Rattle.queue.specs.Order.{Entry, Before}
-use Rattle.queue.specs.Layout.{id-at, key-at, next-at, entry-at, Holds, bucket-of, low, high, Sound}
+use Rattle.queue.specs.Layout.{id-at, key-at, next-at, entry-at, Holds, low, Sound}
 use Rattle.queue.specs.Layout.LinkFacts.{high-place, bucket-place}
 use Rattle.queue.specs.Inner.{SearchFrom, IsFirstAfter, StandsAt, pair-at}
 use Rattle.queue.specs.Layout.Walk.{node-place}

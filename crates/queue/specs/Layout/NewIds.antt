@@ -1,6 +1,6 @@
 -- Whether an id is new: the places before it that have it are counted.
-use mathlib.Core.Path.{_≡_, refl, subst⁻¹}
-use Prim.Native.Nat.{ℕ, _+_, _≤_, _<_}
+use mathlib.Core.Path.{_≡_, refl}
+use Prim.Native.Nat.{ℕ, _+_, _≤_}
 use native.Mathlib.Nat.{lt-irrefl}
 use native.Mathlib.Decide.{ℕ-discrete}
 use native.Mathlib.Omega.{arith}

@@ -3,7 +3,6 @@ use mathlib.Core.Path.{subst, subst⁻¹}
 use mathlib.Core.Logic.{⊎-elim}
 use Prim.Native.Nat.{ℕ, _+_, _-_}
 use native.Mathlib.Omega.{arith}
-use borrow.Author.Needs.{needs}
 use Rattle.basics.specs.Places.{IsPlaceAmong}
 use Rattle.planner.specs.ChooseFacts.{Visited, can-walk, can-search, none-visited, full-chosen, all-chosen, still-room, place-below, one-more-taken-in, one-more-skipped-in}
 use Rattle.planner.proofs.Shape.{planner-shape}

@@ -1,6 +1,6 @@
 -- `queue::order::places_in_order_sound` meets its contract: with k entries met, the walk stands before the others.
 use mathlib.Core.Path.{refl}
-use Prim.Native.Nat.{_-_, _<_}
+use Prim.Native.Nat.{_-_}
 use native.Mathlib.Omega.{arith}
 use borrow.Author.Needs.{needs}
 use Rattle.queue.specs.Layout.InOrder.{Met, in-room, none-met, found-place, one-more-met}

@@ -1,79 +1,113 @@
--- The bounds that a session of the command program keeps.
+-- What the parts of the command program promise one another. `read` stands for all bytes that the reads have delivered so far, `written` for all
+-- that has been handed over to be written; what the system does with them lies outside.
 use mathlib.Core.Path.{_≡_}
-use mathlib.Core.List.{List}
-use Prim.Native.Nat.{ℕ, _+_, _-_, _*_, _≤_, _<_}
-use native.Mathlib.Omega.{arith}
-use lib.ListN.{length, take}
-use lib.Seq.{length-take-le}
 use mathlib.Core.Bool.{true}
-use Rattle.command.specs.Runs.{CanRun, HasRun}
+use mathlib.Core.Logic.{_⊎_}
+use mathlib.Core.List.{List, _++_}
+use Prim.Native.Nat.{ℕ, _+_, _-_, _≤_, _<_, min}
+use lib.ListN.{length, take, drop}
 use Rattle.command.specs.Script.{IsBeginning}
-use Rattle.command.specs.declared.lines.Reached.{Reached}
+use Rattle.console.specs.Transcript.{HasNoEnd, Told, ToldAll}
 use Rattle.console.specs.declared.Session.{Session}
+use Rattle.console.specs.declared.Turn.{Turn}
+use Rattle.console.specs.declared.system.Delivery.{Delivery}
 
--- Places lie within the input at hand and the output.
-pub record InBounds (r : Reached) (bytes out : ℕ) : Type 0 where
-  pub from : r .from ≤ bytes
-  pub have : bytes ≤ 65536
-  pub end : r .end ≤ out
+-- The bytes at hand that are not answered yet.
+abbrev pub at-hand : Session → List ℕ → List ℕ
+at-hand s input = drop (s .reached .from) (take (s .have) input)
 
--- A session that goes on from what was reached: its places are within bounds, and it has read no further line.
-pub record IsNext (r : Reached) (out : ℕ) (s : Session) : Type 0 where
-  pub bounds : InBounds (s .reached) (s .have) out
-  pub number : s .reached .number ≡ r .number
+-- A session has answered the whole lines of what was read, up to the bytes at hand.
+abbrev pub HasTold : List ℕ → List ℕ → Session → List ℕ → Type 0
+HasTold read written s input = Told read written (s .reached .planner) (s .reached .number) (at-hand s input)
 
--- What a turn relies on: bounds, and a line number far from the end of 64 bits.
-pub record CanTurn (s : Session) (input out : ℕ) : Type 0 where
-  pub bounds : InBounds (s .reached) (s .have) out
-  pub number : s .reached .number ≤ 1_000_000_000_000_000_000
-  pub places : input ≡ 65536
+-- Nothing has been read and nothing written.
+pub record IsBegun (s : Session) : Type 0 where
+  pub beginning : IsBeginning (s .reached)
+  pub have : s .have ≡ 0
 
--- A turn keeps the bounds, and answers at most 65,536 lines.
-pub record IsTurn (s : Session) (out : ℕ) (r : Session) : Type 0 where
-  pub bounds : InBounds (r .reached) (r .have) out
+-- Places lie within the input at hand.
+pub record InBounds (s : Session) : Type 0 where
+  pub from : s .reached .from ≤ s .have
+  pub have : s .have ≤ 65536
+
+-- What answering relies on: an empty output, and a line number that cannot wrap.
+pub record CanAnswer (s : Session) (input out : List ℕ) : Type 0 where
+  pub bounds : InBounds s
+  pub empty : s .reached .end ≡ 0
+  pub number : s .reached .number ≤ 9_223_372_036_854_775_808
+  pub places : length input ≡ 65536
+  pub room : length out ≡ 65536
+
+-- The first bytes of the output are the answers to the lines that are no longer at hand. No whole line is left, or the output is too full for
+-- the next answer.
+pub record HasAnswered (s : Session) (input out : List ℕ) (r : Session) : Type 0 where
+  pub told : (read written : List ℕ) → HasTold read written s input → HasTold read (written ++ take (r .reached .end) out) r input
+  pub all-or-full : HasNoEnd (at-hand r input) ⊎ (65536 < r .reached .end + 1430)
+  pub bounds : InBounds r
+  pub end : r .reached .end ≤ 65536
   pub number : r .reached .number ≤ s .reached .number + 65536
 
--- what a turn relies on is what running lines does
-pub can-run : (s : Session) (input out : List ℕ) → CanTurn s (length input) (length out) → CanRun (s .reached) (take (s .have) input) out
-can-run s input out can =
-    let long : length (take (s .have) input) ≡ s .have = length-take-le (s .have) input (omega (arith, can .bounds .have, can .places)) in
-    record { in-input = rw long (can .bounds .from); in-buffer = can .bounds .end; counts = rw long (omega (arith, can .number, can .bounds .have)) }
+-- Only what no line end follows is a last line.
+pub record CanAnswerLast (s : Session) (input out : List ℕ) : Type 0 where
+  pub can-answer : CanAnswer s input out
+  pub no-end : HasNoEnd (at-hand s input)
 
-module _ (s : Session) (input out : List ℕ) (can : CanTurn s (length input) (length out)) (after : List ℕ) (r : Reached) (ran : HasRun (s .reached) (take (s .have) input) out after r) where
-  reached-within : r .from ≤ s .have
-  reached-within = rw (length-take-le (s .have) input (omega (arith, can .bounds .have, can .places))) at (ran .in-input)
+-- At the end of the input: what is at hand is the last line, and the first bytes of the output are its answer.
+pub record HasAnsweredLast (s : Session) (input out : List ℕ) (r : Session) : Type 0 where
+  pub told : (read written : List ℕ) → HasTold read written s input → ToldAll read (written ++ take (r .reached .end) out)
+  pub end : r .reached .end ≤ 65536
 
-  -- lines were run within the bounds ..
-  pub ran-in-bounds : (n : ℕ) → n ≡ length out → InBounds r (s .have) n
-  ran-in-bounds n same = record { from = reached-within; have = can .bounds .have; end = omega (arith, same, ran .in-buffer) }
+-- The output is empty again, and nothing else has changed.
+abbrev pub handed-over : Session → Session
+handed-over s = record { reached = record { planner = s .reached .planner; number = s .reached .number; from = s .reached .from; end = 0 }; have = s .have }
 
-  -- .. and so the turn keeps them
-  pub turned : (n : ℕ) → n ≡ length out → (t : Session) → IsNext r n t → IsTurn s (length out) t
-  turned n same t is =
-      record {
-        bounds = record { from = is .bounds .from; have = is .bounds .have; end = omega (arith, same, is .bounds .end) };
-        number = omega (arith, is .number, ran .counts, reached-within, can .bounds .have);
-      }
+-- The bytes from `from` on stand at the front, as many as there are before `have`, at most 64.
+pub record IsMoved (from have : ℕ) (before after : List ℕ) (r : ℕ) : Type 0 where
+  pub count : r ≡ min 64 (have - from)
+  pub content : after ≡ take r (drop from before) ++ drop r before
 
--- what holds between turns: with buffers of 65,536 places, bounds and line numbers are kept while turns are left
-pub record Going (s : Session) (turns : ℕ) : Type 0 where
-  pub bounds : InBounds (s .reached) (s .have) 65536
-  pub number : s .reached .number + turns * 65536 ≤ 100_000_000_000_000_000
+-- A line may be cut only where no whole line is left.
+pub record CanKeep (s : Session) (input : List ℕ) : Type 0 where
+  pub bounds : InBounds s
+  pub no-end : HasNoEnd (at-hand s input)
+  pub places : length input ≡ 65536
 
-pub begun : (r : Reached) → IsBeginning r → Going (record { reached = r; have = 0; more = true }) 1_099_511_627_776
-begun r is = record { bounds = record { from = omega (arith, is .from); have = omega arith; end = omega (arith, is .end) }; number = omega (arith, is .number) }
+-- What is at hand stands for what was, with room behind it.
+pub record IsKept (s : Session) (before after : List ℕ) (r : Session) : Type 0 where
+  pub told : (read written : List ℕ) → HasTold read written s before → HasTold read written r after
+  pub no-end : HasNoEnd (at-hand r after)
+  pub from : r .reached .from ≡ 0
+  pub have : r .have ≤ 64
+  pub end : r .reached .end ≡ s .reached .end
+  pub number : r .reached .number ≡ s .reached .number
 
-pub can-turn : (s : Session) (turns : ℕ) → Going s turns → (input out : ℕ) → input ≡ 65536 → out ≡ 65536 → CanTurn s input out
-can-turn s turns going input out is-input is-out =
-    record {
-      bounds = record { from = going .bounds .from; have = going .bounds .have; end = omega (arith, is-out, going .bounds .end) };
-      number = omega (arith, going .number);
-      places = is-input;
-    }
+-- More may be read only where every whole line read so far is answered, and every answer handed over.
+pub record CanRefill (s : Session) (input : List ℕ) : Type 0 where
+  pub can-keep : CanKeep s input
+  pub empty : s .reached .end ≡ 0
 
-pub gone-on : (s : Session) (turns : ℕ) → Going s turns → 0 < turns → (out : ℕ) → out ≡ 65536 → (r : Session) → IsTurn s out r → Going r (turns - 1)
-gone-on s turns going some out is-out r is =
-    record {
-      bounds = record { from = is .bounds .from; have = is .bounds .have; end = omega (arith, is-out, is .bounds .end) };
-      number = omega (arith, is .number, going .number, some);
-    }
+-- What a read may deliver into a buffer of n places: where the input has ended, nothing.
+pub record IsDelivery (n : ℕ) (d : Delivery) : Type 0 where
+  pub few : d .count ≤ n
+  pub at-end : d .ended ≡ true → d .count ≡ 0
+
+-- What a turn's read delivered: the last bytes at hand.
+abbrev pub delivered : Turn → List ℕ → List ℕ
+delivered t input = drop (t .session .have - t .got) (take (t .session .have) input)
+
+-- What was delivered stands behind what was at hand. Where the input has ended, no whole line is left.
+pub record IsRefilled (s : Session) (wrote : ℕ) (before after : List ℕ) (t : Turn) : Type 0 where
+  pub told : (read written : List ℕ) → HasTold read written s before → HasTold (read ++ delivered t after) written (t .session) after
+  pub wrote-is : t .wrote ≡ wrote
+  pub bounds : InBounds (t .session)
+  pub empty : t .session .reached .end ≡ 0
+  pub number : t .session .reached .number ≡ s .reached .number
+  pub at-end : t .ended ≡ true → HasNoEnd (at-hand (t .session) after)
+
+-- A turn: what it handed over, the first bytes of the output, are the answers to the next lines; what it was delivered stands behind what was at hand.
+pub record IsTurned (s : Session) (before after out : List ℕ) (t : Turn) : Type 0 where
+  pub told : (read written : List ℕ) → HasTold read written s before → HasTold (read ++ delivered t after) (written ++ take (t .wrote) out) (t .session) after
+  pub bounds : InBounds (t .session)
+  pub empty : t .session .reached .end ≡ 0
+  pub number : t .session .reached .number ≤ s .reached .number + 65536
+  pub at-end : t .ended ≡ true → HasNoEnd (at-hand (t .session) after)

@@ -1,0 +1,36 @@
+-- `console::finish_in_range` stays within its buffers: what is handed over lies in the output.
+use mathlib.Core.Path.{sym}
+use native.Mathlib.Omega.{arith}
+use lib.Seq.{length-take-le}
+use borrow.Author.Needs.{needs}
+use Rattle.console.proofs.finish_in_range.Statement.{statement}
+use Rattle.console.proofs.finish_in_range.Tie as tie
+
+answer-last-in-range-requires : tie.Need-answer-last-in-range-requires
+answer-last-in-range-requires c κs = search needs
+
+slice-reshare-prefix-write-answers : tie.Need-slice-reshare-prefix-write-answers
+slice-reshare-prefix-write-answers c = search needs
+
+slice-aggregate-write-answers : tie.Need-slice-aggregate-write-answers
+slice-aggregate-write-answers c = sym (length-take-le (c .before .before .before .before .answer-last-in-range .result .reached .end) (c .before .before .before .before .answer-last-in-range .last .1 .1 .0) (omega (arith, c .before .before .before .before .answer-last-in-range .ensures .end, c .before .before .before .before .answer-last-in-range .kept .1 .1 .0, c .before .before .before .before .before .before .before .before .pre .can-answer .room)))
+
+write-answers-requires : tie.Need-write-answers-requires
+write-answers-requires c κs = search needs
+
+same-length : tie.Need-same-length
+same-length c = search needs
+
+returns : tie.Need-returns
+returns c = search needs
+
+pub finish-in-range-spec : {M : Type 1} → statement M
+finish-in-range-spec =
+    tie.close
+    (tie.spec
+    answer-last-in-range-requires
+    slice-reshare-prefix-write-answers
+    slice-aggregate-write-answers
+    write-answers-requires
+    same-length
+    returns)

@@ -1,0 +1,270 @@
+-- Why each part of the command program keeps what was told.
+use mathlib.Core.Path.{_≡_, refl, sym, ap, subst, subst⁻¹, _∙_}
+use mathlib.Core.Bool.{Bool, true, false, false≢true}
+use mathlib.Core.Logic.{_⊎_, inl, inr, ⊎-elim}
+use mathlib.Core.List.{List, [], _∷_, _++_, append-nil, append-assoc}
+use Prim.Native.Nat.{ℕ, zero, suc, _+_, _-_, _*_, _≤_, _<_, min}
+use native.Mathlib.Nat.{lt-irrefl}
+use native.Mathlib.Numerals.{add-one}
+use native.Mathlib.Decide.{decLe, ℕ-discrete}
+use native.Mathlib.Omega.{arith}
+use lib.ListN.{length, take, drop, set, getD, length-append, length-take, length-drop, take-append-drop, drop-of-length-le}
+use lib.Seq.{length-take-le, take-all, take-at, drop-at, take-take, take-add, take-suc, drop-cons, set-at, getD-drop, getD-append-add}
+use Rattle.command.specs.Lines.{IsLineEnd}
+use Rattle.command.specs.Runs.{CanRun, HasRun, HasRunLast}
+use Rattle.command.specs.Script.{IsBeginning}
+use Rattle.command.specs.declared.lines.Reached.{Reached}
+use Rattle.console.specs.Transcript.{HasNoEnd, Told, ToldAll}
+use Rattle.console.specs.Transcript.Transcript.{none}
+use Rattle.console.specs.TranscriptFacts.{no-end-first, read-told, cut-told, rest-no-end, step-answer, step-written, run-told, none-left, last-told}
+use Rattle.console.specs.Session.{at-hand, HasTold, IsBegun, InBounds, CanAnswer, HasAnswered, CanAnswerLast, HasAnsweredLast, handed-over, IsMoved, CanKeep, IsKept, CanRefill, delivered, IsRefilled, IsTurned}
+use Rattle.console.specs.declared.Session.{Session}
+use Rattle.console.specs.declared.Turn.{Turn}
+
+-- at the beginning nothing is read, written or at hand
+pub begun-told : (s : Session) → IsBegun s → (input : List ℕ) → HasTold [] [] s input
+begun-told s is input =
+    let nothing : at-hand s input ≡ [] =
+    drop-of-length-le (take (s .have) input) {i = s .reached .from} (omega (arith, length-take (s .have) input, is .have, is .beginning .from)) in
+    subst⁻¹ (λ (l : List ℕ). Told [] [] (s .reached .planner) (s .reached .number) l) nothing
+    (subst⁻¹ (λ (n : ℕ). Told [] [] (s .reached .planner) n []) (is .beginning .number)
+    (record { first = s .reached .planner; closed = is .beginning .closed; lines = []; rest = []; all = refl; transcript = none; stands = inl refl }))
+
+module _ (s : Session) (input out : List ℕ) (can : CanAnswer s input out) where
+  all-there : length (take (s .have) input) ≡ s .have
+  all-there = length-take-le (s .have) input (omega (arith, can .bounds .have, can .places))
+
+  -- what answering relies on is what running lines does
+  pub can-run : CanRun (s .reached) (take (s .have) input) out
+  can-run =
+      record {
+        in-input = omega (arith, all-there, can .bounds .from);
+        in-buffer = omega (arith, can .empty);
+        counts = omega (arith, all-there, can .number, can .bounds .have);
+      }
+
+  module _ (after : List ℕ) (r : Reached) where
+    -- lines that were run are answered
+    pub ran-answered : HasRun (s .reached) (take (s .have) input) out after r → HasAnswered s input after (record { reached = r; have = s .have })
+    ran-answered ran =
+        record {
+          told = λ read written told. run-told (ran .reaches) (can .empty) (ran .in-buffer) read written told .1;
+          all-or-full = go (ran .stopped);
+          bounds = record { from = omega (arith, all-there, ran .in-input); have = can .bounds .have };
+          end = omega (arith, ran .in-buffer, can .room);
+          number = omega (arith, ran .counts, ran .in-input, all-there, can .bounds .have);
+        }
+      where
+        go : IsLineEnd (take (s .have) input) (r .from) (length (take (s .have) input)) ⊎ (length out < r .end + 1430) → HasNoEnd (drop (r .from) (take (s .have) input)) ⊎ (65536 < r .end + 1430)
+        go (inl line-end) = inl (rest-no-end (take (s .have) input) (r .from) line-end)
+        go (inr full) = inr (omega (arith, full, can .room))
+
+    -- so is the last line
+    pub ran-last : HasNoEnd (at-hand s input) → HasRunLast (s .reached) (take (s .have) input) out after r → HasAnsweredLast s input after (record { reached = r; have = s .have })
+    ran-last no-end ran =
+        record {
+          told = λ read written told. go read written told (ℕ-discrete (s .reached .from) (length (take (s .have) input)));
+          end = omega (arith, ran .in-buffer, can .room);
+        }
+      where
+        go : (read written : List ℕ) → HasTold read written s input → Dec (s .reached .from ≡ length (take (s .have) input))
+            → ToldAll read (written ++ take (r .end) after)
+        go read written told (yes all) =
+            let same : r ≡ s .reached = ran .nothing-left all .0 in
+            let nothing-written : take (r .end) after ≡ [] = ap (λ (k : ℕ). take k after) (ap (λ (t : Reached). t .end) same ∙ can .empty) in
+            let nothing-left : at-hand s input ≡ [] = drop-of-length-le (take (s .have) input) {i = s .reached .from} (omega (arith, all)) in
+            subst (ToldAll read) (sym (append-nil written) ∙ ap (λ (l : List ℕ). written ++ l) (sym nothing-written))
+            (none-left (subst (λ (l : List ℕ). Told read written (s .reached .planner) (s .reached .number) l) nothing-left told))
+        go read written told (no some) =
+            let (step, (is, r-is)) = ran .last-line some (omega (arith, can .empty, can .room)) in
+            let bytes = is .written .bytes in
+            let put : take (r .end) after ≡ bytes =
+            ap (λ (t : Reached). take (t .end) after) r-is ∙ step-written is (omega (arith, can .empty, can .room)) ∙ ap (λ (k : ℕ). take k out ++ bytes) (can .empty) in
+            subst (ToldAll read) (ap (λ (l : List ℕ). written ++ l) (sym put))
+            (last-told told no-end (λ nothing. some (ends nothing)) bytes (step .planner) (step-answer is))
+          where
+            ends : at-hand s input ≡ [] → s .reached .from ≡ length (take (s .have) input)
+            ends nothing = omega (arith, ap length nothing, length-drop (s .reached .from) (take (s .have) input), all-there, can .bounds .from)
+
+-- one byte more stands at the front
+pub one-moved : (l m : List ℕ) (from k : ℕ) → from + k < length l → m ≡ take k (drop from l) ++ drop k l
+    → set m k (getD m (from + k) 0) ≡ take (k + 1) (drop from l) ++ drop (k + 1) l
+one-moved l m from k inside same =
+    let front = take k (drop from l) in
+    let long : length front ≡ k = length-take-le k (drop from l) (omega (arith, length-drop from l)) in
+    let split : m ≡ front ++ (getD l k 0 ∷ drop (suc k) l) = same ∙ ap (λ (t : List ℕ). front ++ t) (drop-cons l k 0 (omega arith)) in
+    let place : from + k ≡ length front + from = omega (arith, long) in
+    let other-way : k + from ≡ from + k = omega arith in
+    let there : getD m (from + k) 0 ≡ getD l (from + k) 0 =
+    ap (λ (t : List ℕ). getD t (from + k) 0) same
+    ∙ ap (λ (j : ℕ). getD (front ++ drop k l) j 0) place
+    ∙ getD-append-add front (drop k l) from 0 ∙ getD-drop k l from 0 ∙ ap (λ (j : ℕ). getD l j 0) other-way in
+    ap (λ (x : ℕ). set m k x) there
+    ∙ ap (λ (t : List ℕ). set t k (getD l (from + k) 0)) split
+    ∙ set-at front (getD l k 0) (drop (suc k) l) (getD l (from + k) 0) k long
+    ∙ sym (append-assoc front (getD l (from + k) 0 ∷ []) (drop (suc k) l))
+    ∙ ap (λ (x : ℕ). (front ++ (x ∷ [])) ++ drop (suc k) l) (sym (getD-drop from l k 0))
+    ∙ ap (λ (t : List ℕ). t ++ drop (suc k) l) (sym (take-suc (drop from l) k 0 (omega (arith, length-drop from l))))
+    ∙ ap (λ (j : ℕ). take j (drop from l) ++ drop j l) (sym (add-one k))
+
+-- the first of the bytes at hand
+module _ (l : List ℕ) (from have : ℕ) (in-hand : from ≤ have) (within : have ≤ length l) where
+  hand-is : drop from (take have l) ≡ take (have - from) (drop from l)
+  hand-is =
+      let split : have ≡ from + (have - from) = omega arith in
+      ap (λ (n : ℕ). drop from (take n l)) split ∙ ap (drop from) (take-add from (have - from) l)
+      ∙ drop-at (take from l) (take (have - from) (drop from l)) from (length-take-le from l (omega arith))
+
+  pub first-64 : take 64 (drop from (take have l)) ≡ take (min 64 (have - from)) (drop from l)
+  first-64 = ap (take 64) hand-is ∙ go (decLe 64 (have - from))
+    where
+      go : Dec (64 ≤ have - from) → take 64 (take (have - from) (drop from l)) ≡ take (min 64 (have - from)) (drop from l)
+      go (yes long) =
+          let least : 64 ≡ min 64 (have - from) = omega arith in
+          take-take 64 (have - from) (drop from l) long ∙ ap (λ (n : ℕ). take n (drop from l)) least
+      go (no short) =
+          let least : have - from ≡ min 64 (have - from) = omega arith in
+          take-all 64 (take (have - from) (drop from l)) (omega (arith, length-take (have - from) (drop from l))) ∙ ap (λ (n : ℕ). take n (drop from l)) least
+
+module _ (s : Session) (before after : List ℕ) (can : CanKeep s before) (k : ℕ) (is : IsMoved (s .reached .from) (s .have) before after k) where
+  -- the first 64 of the bytes at hand stand at the front
+  front-is : take k after ≡ take 64 (at-hand s before)
+  front-is =
+      let from = s .reached .from in
+      let long : length (take k (drop from before)) ≡ k =
+      length-take-le k (drop from before) (omega (arith, is .count, length-drop from before, can .bounds .from, can .bounds .have, can .places)) in
+      ap (take k) (is .content) ∙ take-at (take k (drop from before)) (drop k before) k long ∙ ap (λ (n : ℕ). take n (drop from before)) (is .count)
+      ∙ sym (first-64 before from (s .have) (can .bounds .from) (omega (arith, can .bounds .have, can .places)))
+
+  pub moved-kept : IsKept s before after (record { reached = record { planner = s .reached .planner; number = s .reached .number; from = 0; end = s .reached .end }; have = k })
+  moved-kept =
+      record {
+        told = λ read written told. subst⁻¹ (Told read written (s .reached .planner) (s .reached .number)) front-is (cut-told (can .no-end) told);
+        no-end = subst⁻¹ HasNoEnd front-is
+            (no-end-first (take 64 (at-hand s before)) (drop 64 (at-hand s before)) (subst⁻¹ HasNoEnd (take-append-drop 64 (at-hand s before)) (can .no-end)));
+        from = refl;
+        have = omega (arith, is .count);
+        end = refl;
+        number = refl;
+      }
+
+-- what a read delivers stands behind what was kept, which it leaves as it is
+module _ (s kept : Session) (before mid after : List ℕ) (is : IsKept s before mid kept) (can : CanRefill s before) (same : take (kept .have) after ≡ take (kept .have) mid) where
+  module _ (wrote got : ℕ) (more ended : Bool) (few : kept .have + got ≤ 65536) (at-end : ended ≡ true → got ≡ 0) where
+    abbrev next : Turn
+    next = record { session = record { reached = kept .reached; have = kept .have + got }; wrote = wrote; got = got; more = more; ended = ended }
+
+    behind : at-hand (next .session) after ≡ at-hand kept mid ++ delivered next after
+    behind =
+        let all = take (kept .have + got) after in
+        let first : take (kept .have) all ≡ take (kept .have) mid = take-take (kept .have) (kept .have + got) after (omega arith) ∙ same in
+        let from-zero : (l : List ℕ) → drop (kept .reached .from) l ≡ l = λ l. ap (λ (n : ℕ). drop n l) (is .from) in
+        let back : kept .have ≡ kept .have + got - got = omega arith in
+        from-zero all ∙ sym (take-append-drop (kept .have) all) ∙ ap (λ (l : List ℕ). l ++ drop (kept .have) all) (first ∙ sym (from-zero (take (kept .have) mid)))
+        ∙ ap (λ (n : ℕ). at-hand kept mid ++ drop n all) back
+
+    pub kept-refilled : IsRefilled s wrote before after next
+    kept-refilled =
+        record {
+          told = λ read written told.
+              subst⁻¹ (Told (read ++ delivered next after) written (kept .reached .planner) (kept .reached .number)) behind (read-told (delivered next after) (is .told read written told));
+          wrote-is = refl;
+          bounds = record { from = omega (arith, is .from); have = few };
+          empty = is .end ∙ can .empty;
+          number = is .number;
+          at-end = λ end. subst HasNoEnd (sym (nothing (at-end end))) (is .no-end);
+        }
+      where
+        nothing : got ≡ 0 → at-hand (next .session) after ≡ at-hand kept mid
+        nothing none-got =
+            let no-more : kept .have + got ≡ kept .have = omega (arith, none-got) in
+            ap (λ (n : ℕ). drop (kept .reached .from) (take n after)) no-more ∙ ap (drop (kept .reached .from)) same
+
+-- bytes at the start of a part, counted from the whole
+pub within-part : (l : List ℕ) (from n got : ℕ) → got ≤ length (take n (drop from l)) → from ≤ 65536 → length l ≡ 65536 → from + got ≤ 65536
+within-part l from n got few inside long = omega (arith, length-take n (drop from l), length-drop from l)
+
+module _ (s answered : Session) (before out : List ℕ) (is : HasAnswered s before out answered) (session : Session) (over : session ≡ handed-over answered) where
+  -- where there is room for another answer, no whole line is left
+  pub can-refill : length before ≡ 65536 → 1430 ≤ 65536 - answered .reached .end → CanRefill session before
+  can-refill places room =
+      subst⁻¹ (λ (x : Session). CanRefill x before) over
+      (record {
+        can-keep = record { bounds = record { from = is .bounds .from; have = is .bounds .have }; no-end = go (is .all-or-full); places = places };
+        empty = refl;
+      })
+    where
+      go : HasNoEnd (at-hand answered before) ⊎ (65536 < answered .reached .end + 1430) → HasNoEnd (at-hand answered before)
+      go (inl no-end) = no-end
+      go (inr full) = absurd (lt-irrefl 0 (omega (arith, full, room, is .end)))
+
+  still-told : (read written : List ℕ) → HasTold read written s before → HasTold read (written ++ take (answered .reached .end) out) session before
+  still-told read written told = subst⁻¹ (λ (x : Session). HasTold read (written ++ take (answered .reached .end) out) x before) over (is .told read written told)
+
+  few-lines : session .reached .number ≤ s .reached .number + 65536
+  few-lines = omega (arith, ap (λ (x : Session). x .reached .number) over, is .number)
+
+  -- a turn that has read
+  pub refilled-turned : (after : List ℕ) (t : Turn) → IsRefilled session (answered .reached .end) before after t → IsTurned s before after out t
+  refilled-turned after t filled =
+      record {
+        told = λ read written told.
+            subst⁻¹ (λ (k : ℕ). HasTold (read ++ delivered t after) (written ++ take k out) (t .session) after) (filled .wrote-is)
+            (filled .told read (written ++ take (answered .reached .end) out) (still-told read written told));
+        bounds = filled .bounds;
+        empty = filled .empty;
+        number = omega (arith, filled .number, few-lines);
+        at-end = filled .at-end;
+      }
+
+  -- a turn that has not
+  pub stayed-turned : (more : Bool) → IsTurned s before before out (record { session = session; wrote = answered .reached .end; got = 0; more = more; ended = false })
+  stayed-turned more =
+      record {
+        told = λ read written told.
+            subst⁻¹ (λ (l : List ℕ). HasTold l (written ++ take (answered .reached .end) out) session before) (ap (λ (l : List ℕ). read ++ l) nothing ∙ append-nil read)
+            (still-told read written told);
+        bounds = subst⁻¹ InBounds over (record { from = is .bounds .from; have = is .bounds .have });
+        empty = ap (λ (x : Session). x .reached .end) over;
+        number = few-lines;
+        at-end = λ no-end. absurd (false≢true no-end);
+      }
+    where
+      nothing : drop (session .have - 0) (take (session .have) before) ≡ []
+      nothing = drop-of-length-le (take (session .have) before) {i = session .have - 0} (omega (arith, length-take (session .have) before))
+
+-- what holds between turns: all that was read is answered up to what is at hand, and line numbers are kept while turns are left
+pub record Going (s : Session) (ended : Bool) (input : List ℕ) (turns : ℕ) : Type 0 where
+  pub told : (read : List ℕ) × ((written : List ℕ) × HasTold read written s input)
+  pub bounds : InBounds s
+  pub empty : s .reached .end ≡ 0
+  pub number : s .reached .number + turns * 65536 ≤ 9_223_372_036_854_775_808
+  pub at-end : ended ≡ true → HasNoEnd (at-hand s input)
+
+pub begun-going : (s : Session) → IsBegun s → (input : List ℕ) → Going s false input 140_737_488_355_328
+begun-going s is input =
+    record {
+      told = ([], ([], begun-told s is input));
+      bounds = record { from = omega (arith, is .beginning .from, is .have); have = omega (arith, is .have) };
+      empty = is .beginning .end;
+      number = omega (arith, is .beginning .number);
+      at-end = λ no-end. absurd (false≢true no-end);
+    }
+
+module _ (s : Session) (ended : Bool) (input : List ℕ) (turns : ℕ) (going : Going s ended input turns) where
+  pub can-turn : (out : List ℕ) → length input ≡ 65536 → length out ≡ 65536 → CanAnswer s input out
+  can-turn out places room =
+      record { bounds = going .bounds; empty = going .empty; number = omega (arith, going .number); places = places; room = room }
+
+  -- what a turn read and handed over is added to what was
+  turn-told : (after out : List ℕ) (t : Turn) → IsTurned s input after out t → (read : List ℕ) × ((written : List ℕ) × HasTold read written (t .session) after)
+  turn-told after out t is =
+      let (read, (written, told)) = going .told in
+      (read ++ delivered t after, (written ++ take (t .wrote) out, is .told read written told))
+
+  pub gone-on : (after out : List ℕ) (t : Turn) → IsTurned s input after out t → (left : ℕ) → left < turns → Going (t .session) (t .ended) after left
+  gone-on after out t is left fewer =
+      record { told = turn-told after out t is; bounds = is .bounds; empty = is .empty; number = omega (arith, is .number, going .number, fewer); at-end = is .at-end }
+
+  pub can-finish : (out : List ℕ) → length input ≡ 65536 → length out ≡ 65536 → ended ≡ true → CanAnswerLast s input out
+  can-finish out places room end = record { can-answer = can-turn out places room; no-end = going .at-end end }

@@ -1,0 +1,68 @@
+-- What the command program has read, and the answers to it: lines in order, none lost and none answered twice.
+use mathlib.Core.Path.{_≡_}
+use mathlib.Core.Logic.{_⊎_}
+use mathlib.Core.List.{List, [], _∷_, _++_}
+use Prim.Native.Nat.{ℕ, _+_, _≤_}
+use lib.ListN.{length, take}
+use Rattle.planner.specs.Open.{IsFresh}
+use Rattle.planner.specs.declared.Planner.{Planner}
+use Rattle.command.specs.Commands.{Says}
+use Rattle.command.specs.Answers.{IsAnswered}
+use Rattle.command.specs.Puts.{IsLine}
+use Rattle.command.specs.Lines.{NoEnd}
+use Rattle.command.specs.declared.Command.{Command}
+use Rattle.command.specs.declared.answers.Answered.{Answered}
+
+-- None of the bytes ends a line.
+abbrev pub HasNoEnd : List ℕ → Type 0
+HasNoEnd bytes = NoEnd bytes 0 (length bytes)
+
+-- One line: what it says, what the planner answers to it, and the bytes of that answer with its end.
+pub record IsAnswer (p : Planner) (number : ℕ) (line bytes : List ℕ) (after : Planner) : Type 0 where
+  pub command : Command
+  pub says : Says line command
+  pub answered : Answered
+  pub by-contract : IsAnswered p number command answered
+  pub planner : after ≡ answered .planner
+  pub written : IsLine (answered .letter) (take (answered .numbers .count) (answered .numbers .values)) bytes
+
+-- 01: "Lines end in LF", byte 10. Each line has the next number, gets the planner that the one before left, and its answer follows theirs.
+pub data Transcript (p : Planner) : List ℕ → List ℕ → Planner → ℕ → Type 0 where
+  none : Transcript p [] [] p 0
+  next : {lines answers : List ℕ} {q : Planner} {n : ℕ} → Transcript p lines answers q n → (line answer : List ℕ) (after : Planner) → HasNoEnd line
+      → IsAnswer q (n + 1) line answer after → Transcript p (lines ++ (line ++ (10 ∷ []))) (answers ++ answer) after (n + 1)
+
+-- Of bytes that begin with 64 or more of one line, the first 64 of these are kept: a line of more than 63 bytes is malformed whatever it says.
+pub record IsCut (kept rest : List ℕ) : Type 0 where
+  pub line : List ℕ
+  pub more : List ℕ
+  pub long : 64 ≤ length line
+  pub no-end : HasNoEnd line
+  pub kept-is : kept ≡ take 64 line ++ more
+  pub rest-is : rest ≡ line ++ more
+
+-- Of all bytes read, whole lines have been answered, from the closed planner on; p, after n lines, is what they left. The bytes kept are the
+-- rest, or stand for it.
+pub record Told (read written : List ℕ) (p : Planner) (n : ℕ) (kept : List ℕ) : Type 0 where
+  pub first : Planner
+  pub closed : IsFresh 0 0 0 0 first
+  pub lines : List ℕ
+  pub rest : List ℕ
+  pub all : read ≡ lines ++ rest
+  pub transcript : Transcript first lines written p n
+  pub stands : (kept ≡ rest) ⊎ IsCut kept rest
+
+-- 01: "the last may lack it": all that was read is answered, and what follows the last line end is a line too, if there is any.
+pub record ToldAll (read written : List ℕ) : Type 0 where
+  pub first : Planner
+  pub closed : IsFresh 0 0 0 0 first
+  pub lines : List ℕ
+  pub rest : List ℕ
+  pub all : read ≡ lines ++ rest
+  pub no-end : HasNoEnd rest
+  pub p : Planner
+  pub n : ℕ
+  pub answers : List ℕ
+  pub transcript : Transcript first lines answers p n
+  pub nothing-left : rest ≡ [] → written ≡ answers
+  pub last-line : (rest ≡ [] → ⊥) → (answer : List ℕ) × ((after : Planner) × (IsAnswer p (n + 1) rest answer after × (written ≡ answers ++ answer)))

@@ -1,0 +1,263 @@
+-- How what was told grows: by a line answered, by bytes read; and what may be cut from a line.
+use mathlib.Core.Path.{_≡_, refl, sym, ap, subst, _∙_}
+use mathlib.Core.Logic.{_⊎_, inl, inr}
+use mathlib.Core.List.{List, [], _∷_, _++_, append-nil, append-assoc, head-eq-of-cons-eq, tail-eq-of-cons-eq}
+use Prim.Native.Nat.{ℕ, zero, suc, _+_, _-_, _≤_, _<_, suc-le-suc}
+use native.Mathlib.Nat.{lt-irrefl}
+use native.Mathlib.Numerals.{add-one}
+use native.Mathlib.Decide.{decLt}
+use native.Mathlib.Omega.{arith}
+use lib.ListN.{length, take, drop, getD, length-append, length-take, length-drop, take-append-drop, List·getD-append}
+use lib.Seq.{length-take-le, take-all, take-at, take-append-le, drop-drop, drop-cons, getD-take, getD-drop, getD-append-add}
+use Rattle.planner.specs.declared.Planner.{Planner}
+use Rattle.command.specs.Commands.{Says}
+use Rattle.command.specs.CommandFacts.{too-long}
+use Rattle.command.specs.PutFacts.{put-length}
+use Rattle.command.specs.Lines.{NoEnd, IsLineEnd}
+use Rattle.command.specs.Step.{IsStep}
+use Rattle.command.specs.Runs.{part-of, Reaches}
+use Rattle.command.specs.Runs.Reaches.{none as reached-none, one-more}
+use Rattle.command.specs.declared.Command.{Command}
+use Rattle.command.specs.declared.Command.the-variants.{Open, Add, Remove, Round, Malformed}
+use Rattle.command.specs.declared.lines.Reached.{Reached}
+use Rattle.command.specs.declared.step.Step.{Step}
+use Rattle.console.specs.Transcript.{HasNoEnd, IsAnswer, Transcript, IsCut, Told, ToldAll}
+use Rattle.console.specs.Transcript.Transcript.{none, next}
+
+-- bytes without a line end, piece by piece
+pub no-end-first : (a b : List ℕ) → HasNoEnd (a ++ b) → HasNoEnd a
+no-end-first a b none-there k low within ends =
+    none-there k low (omega (arith, length-append a b)) (List·getD-append a b 0 k within ∙ ends)
+
+no-end-second : (a b : List ℕ) → HasNoEnd (a ++ b) → HasNoEnd b
+no-end-second a b none-there k low within ends =
+    none-there (length a + k) (omega arith) (omega (arith, length-append a b)) (getD-append-add a b k 0 ∙ ends)
+
+no-end-both : (a b : List ℕ) → HasNoEnd a → HasNoEnd b → HasNoEnd (a ++ b)
+no-end-both a b in-a in-b k low within ends = go (decLt k (length a))
+  where
+    go : Dec (k < length a) → ⊥
+    go (yes first) = in-a k low first (sym (List·getD-append a b 0 k first) ∙ ends)
+    go (no second) =
+        let e : k ≡ length a + (k - length a) = omega arith in
+        in-b (k - length a) (omega arith) (omega (arith, length-append a b))
+        (sym (getD-append-add a b (k - length a) 0) ∙ ap (λ (j : ℕ). getD (a ++ b) j 0) (sym e) ∙ ends)
+
+-- a first part without a line end lies before the first line end
+before-the-end : (a m line more : List ℕ) → HasNoEnd a → a ++ m ≡ line ++ (10 ∷ more) → (b : List ℕ) × ((line ≡ a ++ b) × (m ≡ b ++ (10 ∷ more)))
+before-the-end [] m line more none-there same = (line, (refl, same))
+before-the-end (x ∷ a) m [] more none-there same = absurd (none-there 0 (omega arith) (omega arith) (head-eq-of-cons-eq same))
+before-the-end (x ∷ a) m (y ∷ line) more none-there same =
+    let (b, (is-line, is-m)) = before-the-end a m line more (no-end-second (x ∷ []) a none-there) (tail-eq-of-cons-eq same) in
+    (b, (ap (λ (l : List ℕ). y ∷ l) is-line ∙ ap (λ (z : ℕ). z ∷ (a ++ b)) (sym (head-eq-of-cons-eq same)), is-m))
+
+-- two lines of 64 bytes or more say the same: nothing
+both-long : (line other : List ℕ) (c : Command) → 64 ≤ length line → 64 ≤ length other → Says line c → Says other c
+both-long line other (Open b f g t) long too says = absurd (lt-irrefl 0 (omega (arith, says .short)))
+both-long line other (Add id s p d) long too says = absurd (lt-irrefl 0 (omega (arith, says .short)))
+both-long line other (Remove id) long too says = absurd (lt-irrefl 0 (omega (arith, says .short)))
+both-long line other Round long too says = absurd (lt-irrefl 0 (omega (arith, says .short)))
+both-long line other Malformed long too says = too-long other (omega arith)
+
+long-answer : {p after : Planner} {n : ℕ} {line other answer : List ℕ} → 64 ≤ length line → 64 ≤ length other → IsAnswer p n line answer after → IsAnswer p n other answer after
+long-answer {line = line} {other = other} long too is =
+    record {
+      command = is .command;
+      says = both-long line other (is .command) long too (is .says);
+      answered = is .answered;
+      by-contract = is .by-contract;
+      planner = is .planner;
+      written = is .written;
+    }
+
+long-enough : (line more : List ℕ) → 64 ≤ length line → 64 ≤ length (take 64 line ++ more)
+long-enough line more long = omega (arith, length-append (take 64 line) more, length-take-le 64 line long)
+
+-- one line more is answered
+pub line-told : {read written : List ℕ} {p : Planner} {n : ℕ} (line more answer : List ℕ) (after : Planner) → HasNoEnd line → IsAnswer p (n + 1) line answer after
+    → Told read written p n (line ++ (10 ∷ more)) → Told read (written ++ answer) after (n + 1) more
+line-told {read} {written} {p} {n} line more answer after no-end is told = go (told .stands)
+  where
+    grown : (whole : List ℕ) → HasNoEnd whole → IsAnswer p (n + 1) whole answer after → told .rest ≡ whole ++ (10 ∷ more) → Told read (written ++ answer) after (n + 1) more
+    grown whole none-there answers rest-is =
+        record {
+          first = told .first;
+          closed = told .closed;
+          lines = told .lines ++ (whole ++ (10 ∷ []));
+          rest = more;
+          all = told .all ∙ ap (λ (l : List ℕ). told .lines ++ l) (rest-is ∙ sym (append-assoc whole (10 ∷ []) more)) ∙ sym (append-assoc (told .lines) (whole ++ (10 ∷ [])) more);
+          transcript = next (told .transcript) whole answer after none-there answers;
+          stands = inl refl;
+        }
+
+    go : ((line ++ (10 ∷ more)) ≡ told .rest) ⊎ IsCut (line ++ (10 ∷ more)) (told .rest) → Told read (written ++ answer) after (n + 1) more
+    go (inl same) = grown line no-end is (sym same)
+    go (inr cut) =
+        let short = take 64 (cut .line) in
+        let short-no-end : HasNoEnd short = no-end-first short (drop 64 (cut .line)) (subst HasNoEnd (sym (take-append-drop 64 (cut .line))) (cut .no-end)) in
+        let (b, (line-is, more-is)) = before-the-end short (cut .more) line more short-no-end (sym (cut .kept-is)) in
+        let b-no-end : HasNoEnd b = no-end-second short b (subst HasNoEnd line-is no-end) in
+        grown (cut .line ++ b) (no-end-both (cut .line) b (cut .no-end) b-no-end)
+        (long-answer (subst (λ (l : List ℕ). 64 ≤ length l) (sym line-is) (long-enough (cut .line) b (cut .long))) (omega (arith, length-append (cut .line) b, cut .long)) is)
+        (cut .rest-is ∙ ap (λ (l : List ℕ). cut .line ++ l) more-is ∙ sym (append-assoc (cut .line) b (10 ∷ more)))
+
+-- bytes are read behind those kept
+pub read-told : {read written : List ℕ} {p : Planner} {n : ℕ} {kept : List ℕ} (bytes : List ℕ) → Told read written p n kept → Told (read ++ bytes) written p n (kept ++ bytes)
+read-told {kept = kept} bytes told =
+    record {
+      first = told .first;
+      closed = told .closed;
+      lines = told .lines;
+      rest = told .rest ++ bytes;
+      all = ap (λ (l : List ℕ). l ++ bytes) (told .all) ∙ append-assoc (told .lines) (told .rest) bytes;
+      transcript = told .transcript;
+      stands = go (told .stands);
+    }
+  where
+    go : (kept ≡ told .rest) ⊎ IsCut kept (told .rest) → ((kept ++ bytes) ≡ (told .rest ++ bytes)) ⊎ IsCut (kept ++ bytes) (told .rest ++ bytes)
+    go (inl same) = inl (ap (λ (l : List ℕ). l ++ bytes) same)
+    go (inr cut) =
+        inr
+        (record {
+          line = cut .line;
+          more = cut .more ++ bytes;
+          long = cut .long;
+          no-end = cut .no-end;
+          kept-is = ap (λ (l : List ℕ). l ++ bytes) (cut .kept-is) ∙ append-assoc (take 64 (cut .line)) (cut .more) bytes;
+          rest-is = ap (λ (l : List ℕ). l ++ bytes) (cut .rest-is) ∙ append-assoc (cut .line) (cut .more) bytes;
+        })
+
+-- where no line end is left, the first 64 bytes stand for all
+pub cut-told : {read written : List ℕ} {p : Planner} {n : ℕ} {kept : List ℕ} → HasNoEnd kept → Told read written p n kept → Told read written p n (take 64 kept)
+cut-told {kept = kept} no-end told =
+    record {
+      first = told .first;
+      closed = told .closed;
+      lines = told .lines;
+      rest = told .rest;
+      all = told .all;
+      transcript = told .transcript;
+      stands = go (told .stands);
+    }
+  where
+    whole-or-cut : (l : List ℕ) → HasNoEnd l → Dec (length l < 64) → (take 64 l ≡ l) ⊎ IsCut (take 64 l) l
+    whole-or-cut l none-there (yes short) = inl (take-all 64 l (omega arith))
+    whole-or-cut l none-there (no long) =
+        inr (record { line = l; more = []; long = omega arith; no-end = none-there; kept-is = sym (append-nil (take 64 l)); rest-is = sym (append-nil l) })
+
+    go : (kept ≡ told .rest) ⊎ IsCut kept (told .rest) → (take 64 kept ≡ told .rest) ⊎ IsCut (take 64 kept) (told .rest)
+    go (inl same) = subst (λ (l : List ℕ). (take 64 kept ≡ l) ⊎ IsCut (take 64 kept) l) same (whole-or-cut kept no-end (decLt (length kept) 64))
+    go (inr cut) =
+        let short = take 64 (cut .line) in
+        let first-64 : take 64 kept ≡ short = ap (take 64) (cut .kept-is) ∙ take-at short (cut .more) 64 (length-take-le 64 (cut .line) (cut .long)) in
+        let more-no-end : HasNoEnd (cut .more) = no-end-second short (cut .more) (subst HasNoEnd (cut .kept-is) no-end) in
+        inr
+        (record {
+          line = cut .line ++ cut .more;
+          more = [];
+          long = omega (arith, length-append (cut .line) (cut .more), cut .long);
+          no-end = no-end-both (cut .line) (cut .more) (cut .no-end) more-no-end;
+          kept-is = first-64 ∙ sym (take-append-le 64 (cut .line) (cut .more) (cut .long)) ∙ sym (append-nil (take 64 (cut .line ++ cut .more)));
+          rest-is = cut .rest-is ∙ sym (append-nil (cut .line ++ cut .more));
+        })
+
+-- the bytes from a place on, up to the next line end and behind it
+split-line : (bytes : List ℕ) (from to : ℕ) → IsLineEnd bytes from to → to < length bytes → drop from bytes ≡ part-of bytes from to ++ (10 ∷ drop (to + 1) bytes)
+split-line bytes from to line-end inside =
+    let back : from + (to - from) ≡ to = omega (arith, line-end .after) in
+    sym (take-append-drop (to - from) (drop from bytes))
+    ∙ ap (λ (l : List ℕ). part-of bytes from to ++ l)
+    (drop-drop (to - from) from bytes ∙ ap (λ (k : ℕ). drop k bytes) back ∙ drop-cons bytes to 0 inside
+    ∙ ap (λ (x : ℕ). x ∷ drop (suc to) bytes) (line-end .ends inside) ∙ ap (λ (k : ℕ). 10 ∷ drop k bytes) (sym (add-one to)))
+
+line-no-end : (bytes : List ℕ) (from to : ℕ) → IsLineEnd bytes from to → HasNoEnd (part-of bytes from to)
+line-no-end bytes from to line-end k low within ends =
+    let near : k < to - from = omega (arith, within, length-take (to - from) (drop from bytes)) in
+    line-end .before (from + k) (omega arith) (omega arith) (sym (getD-drop from bytes k 0) ∙ sym (getD-take (to - from) (drop from bytes) k 0 near) ∙ ends)
+
+-- no whole line from a place on
+pub rest-no-end : (bytes : List ℕ) (from : ℕ) → IsLineEnd bytes from (length bytes) → HasNoEnd (drop from bytes)
+rest-no-end bytes from line-end k low within ends =
+    line-end .before (from + k) (omega arith) (omega (arith, within, length-drop from bytes)) (sym (getD-drop from bytes k 0) ∙ ends)
+
+-- what a step does is an answer, put behind what was written
+pub step-answer : {p : Planner} {number : ℕ} {line before after : List ℕ} {at : ℕ} {r : Step} (is : IsStep p number line before after at r) → IsAnswer p number line (is .written .bytes) (r .planner)
+step-answer is =
+    record { command = is .command; says = is .says; answered = is .answered; by-contract = is .by-contract; planner = is .planner; written = is .written .property }
+
+pub step-written : {p : Planner} {number : ℕ} {line before after : List ℕ} {at : ℕ} {r : Step} (is : IsStep p number line before after at r) → at ≤ length before
+    → take (r .end) after ≡ take at before ++ is .written .bytes
+step-written {before = before} {after} {at} {r} is inside =
+    let front = take at before ++ is .written .bytes in
+    ap (take (r .end)) (is .written .content ∙ sym (append-assoc (take at before) (is .written .bytes) (drop (r .end) before)))
+    ∙ take-at front (drop (r .end) before) (r .end) (length-append (take at before) (is .written .bytes) ∙ omega (arith, length-take-le at before inside, is .written .ends))
+
+-- lines that were run, from an empty output on, are told, and the output keeps its length
+pub run-told : {bytes out after : List ℕ} {s t : Reached} → Reaches bytes s out t after → s .end ≡ 0 → t .end ≤ length out → (read written : List ℕ)
+    → Told read written (s .planner) (s .number) (drop (s .from) bytes)
+    → (length after ≡ length out) × Told read (written ++ take (t .end) after) (t .planner) (t .number) (drop (t .from) bytes)
+run-told {bytes} {out} {s = s} reached-none empty within read written told =
+    (refl, subst (λ (l : List ℕ). Told read l (s .planner) (s .number) (drop (s .from) bytes)) (sym (append-nil written) ∙ ap (λ (k : ℕ). written ++ take k out) (sym empty)) told)
+run-told {bytes} {out} {s = s} (one-more {t} {written = mid} reaches to line-end inside after r is) empty within read written told =
+    let earlier : t .end ≤ r .end = omega (arith, is .written .ends) in
+    let (same, so-far) = run-told reaches empty (omega (arith, within, earlier)) read written told in
+    let line = part-of bytes (t .from) to in
+    let split = subst (λ (l : List ℕ). Told read (written ++ take (t .end) mid) (t .planner) (t .number) l) (split-line bytes (t .from) to line-end inside) so-far in
+    let grown = line-told line (drop (to + 1) bytes) (is .written .bytes) (r .planner) (line-no-end bytes (t .from) to line-end) (step-answer is) split in
+    let place : t .end ≤ length mid = omega (arith, same, within, earlier) in (
+      put-length (is .written) (omega (arith, same, within)) ∙ same,
+      subst (λ (l : List ℕ). Told read l (r .planner) (t .number + 1) (drop (to + 1) bytes))
+          (append-assoc written (take (t .end) mid) (is .written .bytes) ∙ ap (λ (l : List ℕ). written ++ l) (sym (step-written is place))) grown,
+    )
+
+-- what is left without a line end is a last line, or nothing
+pub none-left : {read written : List ℕ} {p : Planner} {n : ℕ} → Told read written p n [] → ToldAll read written
+none-left {read} {written} {p} {n} told = go (told .stands)
+  where
+    go : ([] ≡ told .rest) ⊎ IsCut [] (told .rest) → ToldAll read written
+    go (inl same) =
+        record {
+          first = told .first;
+          closed = told .closed;
+          lines = told .lines;
+          rest = told .rest;
+          all = told .all;
+          no-end = subst HasNoEnd same (λ k low within ends. lt-irrefl 0 (omega (arith, within)));
+          p = p;
+          n = n;
+          answers = written;
+          transcript = told .transcript;
+          nothing-left = λ _. refl;
+          last-line = λ some. absurd (some (sym same));
+        }
+    go (inr cut) = absurd (lt-irrefl 0 (omega (arith, ap length (cut .kept-is), length-append (take 64 (cut .line)) (cut .more), length-take-le 64 (cut .line) (cut .long))))
+
+module _ {read written : List ℕ} {p : Planner} {n : ℕ} {kept : List ℕ} (told : Told read written p n kept) (no-end : HasNoEnd kept) (some : kept ≡ [] → ⊥) where
+  pub last-told : (answer : List ℕ) (after : Planner) → IsAnswer p (n + 1) kept answer after → ToldAll read (written ++ answer)
+  last-told answer after is = go (told .stands)
+    where
+      ended : HasNoEnd (told .rest) → (told .rest ≡ [] → ⊥) → IsAnswer p (n + 1) (told .rest) answer after → ToldAll read (written ++ answer)
+      ended none-there left answers =
+          record {
+            first = told .first;
+            closed = told .closed;
+            lines = told .lines;
+            rest = told .rest;
+            all = told .all;
+            no-end = none-there;
+            p = p;
+            n = n;
+            answers = written;
+            transcript = told .transcript;
+            nothing-left = λ nothing. absurd (left nothing);
+            last-line = λ _. (answer, (after, (answers, refl)));
+          }
+
+      go : (kept ≡ told .rest) ⊎ IsCut kept (told .rest) → ToldAll read (written ++ answer)
+      go (inl same) = ended (subst HasNoEnd same no-end) (λ nothing. some (same ∙ nothing)) (subst (λ (l : List ℕ). IsAnswer p (n + 1) l answer after) same is)
+      go (inr cut) =
+          let more-no-end : HasNoEnd (cut .more) = no-end-second (take 64 (cut .line)) (cut .more) (subst HasNoEnd (cut .kept-is) no-end) in
+          let long : 64 ≤ length (told .rest) = omega (arith, ap length (cut .rest-is), length-append (cut .line) (cut .more), cut .long) in
+          ended (subst HasNoEnd (sym (cut .rest-is)) (no-end-both (cut .line) (cut .more) (cut .no-end) more-no-end))
+          (λ nothing. lt-irrefl 0 (omega (arith, ap length nothing)))
+          (long-answer (subst (λ (l : List ℕ). 64 ≤ length l) (sym (cut .kept-is)) (long-enough (cut .line) (cut .more) (cut .long))) long is)

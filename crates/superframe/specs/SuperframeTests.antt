@@ -16,19 +16,16 @@ superframe-test ps zero zero = false
 superframe-test ps zero (suc b) = ranges ps && ((eqb (remainders ps (suc b)) 0 && none-up-to ps b) && leb (suc b) 5040)
 superframe-test ps (suc n) value = ranges ps && ((eqb (suc n) 19 && eqb value 0) && none-up-to ps 5040)
 
-both : {a b : Bool} → So (a && b) → So a × So b
-both {a} {b} = and-eq-true-iff a b .0
-
 pub tested-superframe : (ps : List ℕ) (answer value : ℕ) → So (superframe-test ps answer value) → superframe-of ps ≡ record { answer = answer; value = value }
 unfolding superframe-test
 tested-superframe ps zero zero tested = absurd (true≢false (sym tested))
 tested-superframe ps zero (suc b) tested =
-    let range : So (ranges ps) × So ((eqb (remainders ps (suc b)) 0 && none-up-to ps b) && leb (suc b) 5040) = both tested in
-    let low : So (eqb (remainders ps (suc b)) 0 && none-up-to ps b) × So (leb (suc b) 5040) = both (range .1) in
-    let least : So (eqb (remainders ps (suc b)) 0) × So (none-up-to ps b) = both (low .0) in
+    let range = and-eq-true-iff (ranges ps) ((eqb (remainders ps (suc b)) 0 && none-up-to ps b) && leb (suc b) 5040) .0 tested in
+    let low = and-eq-true-iff (eqb (remainders ps (suc b)) 0 && none-up-to ps b) (leb (suc b) 5040) .0 (range .1) in
+    let least = and-eq-true-iff (eqb (remainders ps (suc b)) 0) (none-up-to ps b) .0 (low .0) in
     gives-lcm ps (in-range ps (range .0)) (suc b) (tested-lcm ps b (eqb-true (remainders ps (suc b)) 0 (least .0)) (least .1)) (leb-true (suc b) 5040 (low .1))
 tested-superframe ps (suc n) value tested =
-    let range : So (ranges ps) × So ((eqb (suc n) 19 && eqb value 0) && none-up-to ps 5040) = both tested in
-    let high : So (eqb (suc n) 19 && eqb value 0) × So (none-up-to ps 5040) = both (range .1) in
-    let numbers : So (eqb (suc n) 19) × So (eqb value 0) = both (high .0) in
+    let range = and-eq-true-iff (ranges ps) ((eqb (suc n) 19 && eqb value 0) && none-up-to ps 5040) .0 tested in
+    let high = and-eq-true-iff (eqb (suc n) 19 && eqb value 0) (none-up-to ps 5040) .0 (range .1) in
+    let numbers = and-eq-true-iff (eqb (suc n) 19) (eqb value 0) .0 (high .0) in
     rw (eqb-true (suc n) 19 (numbers .0), eqb-true value 0 (numbers .1)) (refuses-19 ps (in-range ps (range .0)) (λ m common. above ps 5040 m (high .1) common))

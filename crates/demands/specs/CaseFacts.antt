@@ -3,16 +3,15 @@ use mathlib.Core.Path.{_≡_, refl, sym, ap, subst, _∙_}
 use mathlib.Core.Bool.{Bool, true, false, cond, not, _&&_, So, true≢false, decide, decide-iff, and-eq-true-iff}
 use mathlib.Core.Logic.{Dec·and, Dec·not}
 use mathlib.Core.List.{List, [], _∷_}
-use Prim.Native.Nat.{ℕ, zero, suc, _+_, _-_, _*_, _≤_, _<_}
+use Prim.Native.Nat.{ℕ, zero, suc, _+_, _-_, _*_, _≤_}
 use native.Mathlib.Decide.{decLe, decLt, decDvd, ℕ-discrete}
 use native.Mathlib.Omega.{arith}
 use lib.Dec.{leb, ltb, eqb}
 use lib.ListN.{length, take}
 use borrow.Author.Tests.{leb-true, ltb-true, eqb-true, eqb-false, not-true, le-leb}
 use Rattle.basics.specs.Refusals.{Refusal, answer-of, answer-first, answer-later, AllPass, answer-after}
-use Rattle.rules.specs.Streams.{Stream}
 use Rattle.rules.specs.Demand.{packets-by, demand, future, DemandRule, StartRule}
-use Rattle.rules.specs.Slots.{riders, goes-before, put-in-order, in-order, slots, after-round}
+use Rattle.rules.specs.Slots.{riders, goes-before, put-in-order, in-order, slots}
 use Rattle.rules.specs.LazyStart.{least-of, latest, lazy-start, lazy-start-is-lazy, lazy-unique, first-due, first-due-is-first}
 use Rattle.rules.specs.Tests.{both, all-below, is-table, is-busy, keeps-demand, keeps-start, is-ready, tested-demand, tested-ready}
 use Rattle.table.specs.Changes.{put-by-id}
@@ -20,7 +19,7 @@ use Rattle.planner.specs.Content.{Content, content, now-of, cap-of}
 use Rattle.planner.specs.Sound.{ContentSound, Sound}
 use Rattle.planner.specs.SoundFacts.{all-formed, fits-now, frame-is-busy}
 use Rattle.planner.specs.Open.{open-refusals}
-use Rattle.planner.specs.Calls.{added, unsound, bad-id, id-held, full, bad-period, bad-deadline, bad-start, breaks-demand, breaks-start, add-refusals, IsAdd}
+use Rattle.planner.specs.Calls.{added, unsound, bad-id, id-held, full, bad-period, bad-deadline, bad-start, breaks-demand, breaks-start, IsAdd}
 use Rattle.planner.specs.Round.{IsStart, ids-at, rounded, IsRound}
 use Rattle.planner.specs.CallFacts.{refused-change, success-change, refused-round, success-round, held-exactly, seventeen-exactly}
 use Rattle.planner.specs.declared.Planner.{Planner}
@@ -172,10 +171,10 @@ tested-ids (x ∷ xs) (y ∷ ys) tested =
     let split : So (eqb x y) × So (same-ids xs ys) = both tested in
     λ i. eqb-true x y (split .0) i ∷ tested-ids xs ys (split .1) i
 
--- with a stream held, the start is s and the clock reaches it
-unfoldable pub held-test : Content → ℕ → List ℕ → Bool
+-- with a stream held, the start is s, the clock reaches it, and its slots are these n ids
+unfoldable pub held-test : Content → ℕ → ℕ → List ℕ → Bool
 unfolding start-in same-ids slots in-order put-in-order goes-before riders Dec·and
-held-test h s ids = ltb 0 (length (h .table)) && (eqb (start-in h) s && (leb s 1_000_000_000 && same-ids (ids-at h s) ids))
+held-test h s n ids = (ltb 0 (length (h .table)) && (eqb (start-in h) s && leb s 1_000_000_000)) && (eqb (length ids) n && same-ids (ids-at h s) ids)
 
 -- with a stream held, the start is after the last one
 unfoldable pub late-test : Content → Bool
@@ -183,19 +182,23 @@ unfolding start-in
 late-test h = ltb 0 (length (h .table)) && ltb 1_000_000_000 (start-in h)
 
 module _ (p : Planner) (sound : Sound p) (before after : List ℕ) (r : Rounded) (long : p .slots ≤ length before) (is : IsRound p before after r) where
-  pub round-held : (s : ℕ) (ids : List ℕ) → So (held-test (content p) s ids)
-      → ((r .answer ≡ 0) × (r .start ≡ s) × (take (r .n) after ≡ ids)) × (content (r .planner) ≡ rounded (content p) s)
+  pub round-held : (s n : ℕ) (ids : List ℕ) → So (held-test (content p) s n ids)
+      → ((r .answer ≡ 0) × (r .start ≡ s) × (r .n ≡ n) × (take (r .n) after ≡ ids)) × (content (r .planner) ≡ rounded (content p) s)
   unfolding held-test
-  round-held s ids tested =
+  round-held s n ids tested =
       let h = content p in
-      let some : So (ltb 0 (length (h .table))) × So (eqb (start-in h) s && (leb s 1_000_000_000 && same-ids (ids-at h s) ids)) = both tested in
-      let at : So (eqb (start-in h) s) × So (leb s 1_000_000_000 && same-ids (ids-at h s) ids) = both (some .1) in
-      let early : So (leb s 1_000_000_000) × So (same-ids (ids-at h s) ids) = both (at .1) in
+      let split : So (ltb 0 (length (h .table)) && (eqb (start-in h) s && leb s 1_000_000_000)) × So (eqb (length ids) n && same-ids (ids-at h s) ids) = both tested in
+      let some : So (ltb 0 (length (h .table))) × So (eqb (start-in h) s && leb s 1_000_000_000) = both (split .0) in
+      let at : So (eqb (start-in h) s) × So (leb s 1_000_000_000) = both (some .1) in
+      let places : So (eqb (length ids) n) × So (same-ids (ids-at h s) ids) = both (split .1) in
       let start : IsStart h s = subst (IsStart h) (eqb-true (start-in h) s (at .0)) (start-in-is-start h (sound .content-sound)) in
-      let zero = is .answer ∙ held-exactly p before sound (ltb-true 0 (length (h .table)) (some .0)) long s start .1 (leb-true s 1_000_000_000 (early .0)) in
+      let zero = is .answer ∙ held-exactly p before sound (ltb-true 0 (length (h .table)) (some .0)) long s start .1 (leb-true s 1_000_000_000 (at .1)) in
       let w = success-round is zero in
       let same : r .start ≡ s = lazy-unique (h .slots) (cap-of h) (h .table) (r .start) s (w .start) start in
-      ((zero, same, ids-written p before after r w ∙ ap (ids-at h) same ∙ tested-ids (ids-at h s) ids (early .1)), w .planner .holds ∙ ap (rounded h) same)
+      let written : ids-at h (r .start) ≡ ids = ap (ids-at h) same ∙ tested-ids (ids-at h s) ids (places .1) in (
+        (zero, same, w .n ∙ ap length written ∙ eqb-true (length ids) n (places .0), ids-written p before after r w ∙ written),
+        w .planner .holds ∙ ap (rounded h) same,
+      )
 
   pub round-late : So (late-test (content p)) → (r .answer ≡ 17) × (r .planner ≡ p)
   unfolding late-test

@@ -1,14 +1,15 @@
--- The planner's starred cases of document 01, "Tables on the edge", as one table over the contracts of the calls. Those of the superframe are
--- proved in crate superframe.
-use mathlib.Core.Path.{_≡_, refl, subst⁻¹, _∙_}
+-- The starred cases of document 01, "Tables on the edge", as one table over the contracts of the calls.
+use mathlib.Core.Path.{_≡_, refl, ap, subst⁻¹, _∙_}
 use mathlib.Core.Bool.{Bool, true, _&&_, So, So-prop}
 use mathlib.Core.List.{List, [], _∷_, List·Mem, not-mem-nil, forall-mem-cons}
-use Prim.Native.Nat.{ℕ, _≤_}
+use Prim.Native.Nat.{ℕ, _+_, _*_, _≤_}
 use lib.Dec.{eqb}
 use lib.ListN.{length, take}
 use borrow.Author.Tests.{eqb-true}
 use Rattle.rules.specs.Slots.{after-round}
 use Rattle.rules.specs.Tests.{both}
+use Rattle.superframe.specs.Superframe.{superframe-of, packed}
+use Rattle.superframe.specs.SuperframeTests.{superframe-test, tested-superframe}
 use Rattle.planner.specs.Content.{Content, content}
 use Rattle.planner.specs.Sound.{Sound}
 use Rattle.planner.specs.Open.{opened, IsOpened}
@@ -24,7 +25,7 @@ use Rattle.demands.specs.CaseFacts.{open-test, open-succeeds, add-test, 
 -- A line of a case: a call, and what it answers.
 pub data Line : Type 0 where
   add-gives : (id start period deadline answer : ℕ) → Line
-  round-gives : (start : ℕ) (ids : List ℕ) → Line
+  round-gives : (start n : ℕ) (ids : List ℕ) → Line
   round-refused : (answer : ℕ) → Line
 
 -- Whatever results the calls have by their contracts, they are those of the lines. Each call gets the planner that the one before handed back,
@@ -33,48 +34,41 @@ unfoldable pub Answers : Planner → List Line → Type 0
 Answers p [] = Unit {0}
 Answers p (add-gives id start period deadline answer ∷ lines) =
     (r : Changed) → IsAdd p id start period deadline r → (r .answer ≡ answer) × Answers (r .planner) lines
-Answers p (round-gives start ids ∷ lines) =
+Answers p (round-gives start n ids ∷ lines) =
     (before after : List ℕ) (r : Rounded) → p .slots ≤ length before → IsRound p before after r
-    → ((r .answer ≡ 0) × (r .start ≡ start) × (take (r .n) after ≡ ids)) × Answers (r .planner) lines
+    → ((r .answer ≡ 0) × (r .start ≡ start) × (r .n ≡ n) × (take (r .n) after ≡ ids)) × Answers (r .planner) lines
 Answers p (round-refused answer ∷ lines) =
     (before after : List ℕ) (r : Rounded) → p .slots ≤ length before → IsRound p before after r → (r .answer ≡ answer) × Answers (r .planner) lines
 
--- A case: what is passed to open, and the lines after it.
-pub record Case : Type 0 where
-  pub slots : ℕ
-  pub frame : ℕ
-  pub gap : ℕ
-  pub last : ℕ
-  pub lines : List Line
+-- A case: B, F, G and T as they are passed to open, and the lines after it; or the periods passed to superframe, with the answer and the value.
+pub data Case : Type 0 where
+  planner-case : (slots frame gap last : ℕ) (lines : List Line) → Case
+  superframe-case : (periods : List ℕ) (answer value : ℕ) → Case
 
--- Whatever open hands back by its contract, it has succeeded, and the lines hold from there.
-abbrev pub Holds : Case → Type 0
-Holds c = (r : Changed) → IsOpened (c .slots) (c .frame) (c .gap) (c .last) r → (r .answer ≡ 0) × Answers (r .planner) (c .lines)
+-- Whatever open hands back by its contract, it has succeeded, and the lines hold from there. Whatever number superframe returns by its
+-- contract, it is the answer × 65,536, plus the value.
+unfoldable pub Holds : Case → Type 0
+Holds (planner-case slots frame gap last lines) = (r : Changed) → IsOpened slots frame gap last r → (r .answer ≡ 0) × Answers (r .planner) lines
+Holds (superframe-case periods answer value) = (r : ℕ) → r ≡ packed (superframe-of periods) → r ≡ answer * 65_536 + value
 
 -- 01: "The three rounds above": O,2,6,6,0 / A,1,1,3,2 / A,2,1,6,6 / A,3,2,6,5 / R / R / R print R,0,2,2,1,2 / R,0,5,2,1,3 / R,0,8,2,1,2.
 -- "B=1, F=2, G=9, T=0: stream 1 (1,2,1) goes in; 2 (2,2,1) gets 12."
 -- "B=1, F=10, G=20, T=0, streams 1 and 2 both (1,10,10): round at 9 sends 1. Then 3 as (10,10,1) gets 13; as (11,10,1) 0."
 -- "B=1, F=240, G=20, T=0, one (1,240,240): rounds at 20 with it, then 40 with no slot."
 -- "T=999,999,999, B=1, F=1, G=1, one (1,000,000,000,1,1): a round, then 17."
+-- "Superframe of 5, 7, 15 is 105; of 240, 7, 9 is 5,040; of 240, 7, 11 gets 19."
 unfoldable pub starred : List Case
 starred =
-    record {
-      slots = 2;
-      frame = 6;
-      gap = 6;
-      last = 0;
-      lines = add-gives 1 1 3 2 0 ∷ add-gives 2 1 6 6 0 ∷ add-gives 3 2 6 5 0 ∷ round-gives 2 (1 ∷ 2 ∷ []) ∷ round-gives 5 (1 ∷ 3 ∷ []) ∷ round-gives 8 (1 ∷ 2 ∷ []) ∷ [];
-    }
-    ∷ record { slots = 1; frame = 2; gap = 9; last = 0; lines = add-gives 1 1 2 1 0 ∷ add-gives 2 2 2 1 12 ∷ [] }
-    ∷ record {
-      slots = 1;
-      frame = 10;
-      gap = 20;
-      last = 0;
-      lines = add-gives 1 1 10 10 0 ∷ add-gives 2 1 10 10 0 ∷ round-gives 9 (1 ∷ []) ∷ add-gives 3 10 10 1 13 ∷ add-gives 3 11 10 1 0 ∷ [];
-    }
-    ∷ record { slots = 1; frame = 240; gap = 20; last = 0; lines = add-gives 1 1 240 240 0 ∷ round-gives 20 (1 ∷ []) ∷ round-gives 40 [] ∷ [] }
-    ∷ record { slots = 1; frame = 1; gap = 1; last = 999_999_999; lines = add-gives 1 1_000_000_000 1 1 0 ∷ round-gives 1_000_000_000 (1 ∷ []) ∷ round-refused 17 ∷ [] }
+    planner-case 2 6 6 0
+    (add-gives 1 1 3 2 0 ∷ add-gives 2 1 6 6 0 ∷ add-gives 3 2 6 5 0 ∷ round-gives 2 2 (1 ∷ 2 ∷ []) ∷ round-gives 5 2 (1 ∷ 3 ∷ []) ∷ round-gives 8 2 (1 ∷ 2 ∷ []) ∷ [])
+    ∷ planner-case 1 2 9 0 (add-gives 1 1 2 1 0 ∷ add-gives 2 2 2 1 12 ∷ [])
+    ∷ planner-case 1 10 20 0
+    (add-gives 1 1 10 10 0 ∷ add-gives 2 1 10 10 0 ∷ round-gives 9 1 (1 ∷ []) ∷ add-gives 3 10 10 1 13 ∷ add-gives 3 11 10 1 0 ∷ [])
+    ∷ planner-case 1 240 20 0 (add-gives 1 1 240 240 0 ∷ round-gives 20 1 (1 ∷ []) ∷ round-gives 40 0 [] ∷ [])
+    ∷ planner-case 1 1 1 999_999_999 (add-gives 1 1_000_000_000 1 1 0 ∷ round-gives 1_000_000_000 1 (1 ∷ []) ∷ round-refused 17 ∷ [])
+    ∷ superframe-case (5 ∷ 7 ∷ 15 ∷ []) 0 105
+    ∷ superframe-case (240 ∷ 7 ∷ 9 ∷ []) 0 5040
+    ∷ superframe-case (240 ∷ 7 ∷ 11 ∷ []) 19 0
     ∷ []
 
 -- a test of the lines, by what the planner holds
@@ -83,7 +77,7 @@ unfolding add-test held-test late-test after-round
 lines-test h [] = true
 lines-test h (add-gives id start period deadline answer ∷ lines) =
     add-test h id start period deadline answer && lines-test (after-add h id start period deadline answer) lines
-lines-test h (round-gives start ids ∷ lines) = held-test h start ids && lines-test (rounded h start) lines
+lines-test h (round-gives start n ids ∷ lines) = held-test h start n ids && lines-test (rounded h start) lines
 lines-test h (round-refused answer ∷ lines) = (eqb 17 answer && late-test h) && lines-test h lines
 
 tested-lines : (lines : List Line) (p : Planner) → Sound p → So (lines-test (content p) lines) → Answers p lines
@@ -96,10 +90,10 @@ tested-lines (add-gives id start period deadline answer ∷ lines) p sound teste
       tested-lines lines (r .planner) (change-keeps-sound is sound)
           (subst⁻¹ (λ (h : Content). So (lines-test h lines)) (add-leaves p sound id start period deadline answer (split .0) r is) (split .1)),
     )
-tested-lines (round-gives start ids ∷ lines) p sound tested =
-    let split : So (held-test (content p) start ids) × So (lines-test (rounded (content p) start) lines) = both tested in
+tested-lines (round-gives start n ids ∷ lines) p sound tested =
+    let split : So (held-test (content p) start n ids) × So (lines-test (rounded (content p) start) lines) = both tested in
     λ before after r long is.
-    let (answers, leaves) = round-held p sound before after r long is start ids (split .0) in
+    let (answers, leaves) = round-held p sound before after r long is start n ids (split .0) in
     (answers, tested-lines lines (r .planner) (round-keeps-sound is sound) (subst⁻¹ (λ (h : Content). So (lines-test h lines)) leaves (split .1)))
 tested-lines (round-refused answer ∷ lines) p sound tested =
     let split : So (eqb 17 answer && late-test (content p)) × So (lines-test (content p) lines) = both tested in
@@ -110,19 +104,22 @@ tested-lines (round-refused answer ∷ lines) p sound tested =
 
 -- a test of a case
 unfoldable case-test : Case → Bool
-unfolding open-test lines-test
-case-test c = open-test (c .slots) (c .frame) (c .gap) (c .last) && lines-test (opened (c .slots) (c .frame) (c .gap) (c .last)) (c .lines)
+unfolding open-test lines-test superframe-test
+case-test (planner-case slots frame gap last lines) = open-test slots frame gap last && lines-test (opened slots frame gap last) lines
+case-test (superframe-case periods answer value) = superframe-test periods answer value
 
 tested-case : (c : Case) → So (case-test c) → Holds c
-unfolding case-test
-tested-case c tested r is =
-    let split : So (open-test (c .slots) (c .frame) (c .gap) (c .last)) × So (lines-test (opened (c .slots) (c .frame) (c .gap) (c .last)) (c .lines)) = both tested in
-    let none = open-succeeds (c .slots) (c .frame) (c .gap) (c .last) (split .0) in
+unfolding case-test Holds
+tested-case (planner-case slots frame gap last lines) tested =
+    let split : So (open-test slots frame gap last) × So (lines-test (opened slots frame gap last) lines) = both tested in
+    let none = open-succeeds slots frame gap last (split .0) in
+    λ r is.
     let zero = is .answer ∙ none in (
       zero,
-      tested-lines (c .lines) (r .planner) (open-success-is-sound (c .slots) (c .frame) (c .gap) (c .last) r is zero)
-          (subst⁻¹ (λ (h : Content). So (lines-test h (c .lines))) (is .opened none .holds) (split .1)),
+      tested-lines lines (r .planner) (open-success-is-sound slots frame gap last r is zero)
+          (subst⁻¹ (λ (h : Content). So (lines-test h lines)) (is .opened none .holds) (split .1)),
     )
+tested-case (superframe-case periods answer value) tested = λ r is. is ∙ ap packed (tested-superframe periods answer value tested)
 
 -- a test of all cases of a list
 unfoldable all-test : List Case → Bool

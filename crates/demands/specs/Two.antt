@@ -4,16 +4,18 @@
 use mathlib.Core.Path.{_≡_, sym, subst⁻¹, _∙_}
 use mathlib.Core.Logic.{_⊎_, inl, inr, _↔_, _∨₁_, Or·inl, Or·inr, Or·elim}
 use mathlib.Core.HLevel.{⊥-prop}
-use mathlib.Core.List.{List, [], _∷_, map}
+use mathlib.Core.List.{List, [], _∷_, map, map-map}
 use Prim.Native.Nat.{ℕ, _≤_, _<_}
 use native.Mathlib.Omega.{arith}
-use lib.ListN.{length}
+use lib.ListN.{length, take, length-map}
 use Rattle.basics.specs.Refusals.{answer-of, answer-first, answer-later}
-use Rattle.rules.specs.Streams.{IsTable, at-zero}
+use Rattle.rules.specs.Streams.{Stream, Packet, packet, IsTable, at-zero}
 use Rattle.rules.specs.Demand.{DemandRule, StartRule, DueAfter}
+use Rattle.rules.specs.Slots.{IsSlots, slots}
 use Rattle.rules.specs.Plans.{Servable}
 use Rattle.rules.specs.Decide.{decide-demand-rule, decide-start-rule}
 use Rattle.rules.specs.Exact.{demand-exact, demand-fails-exactly, start-exact, start-fails-exactly}
+use Rattle.rules.specs.SlotPackets.{slots-are-first}
 use Rattle.planner.specs.Content.{Content, content, now-of}
 use Rattle.planner.specs.Sound.{Sound}
 use Rattle.planner.specs.SoundFacts.{content-table, sound-start}
@@ -22,18 +24,29 @@ use Rattle.planner.specs.Round.{IsStart, IsHeldRound, IsRound}
 use Rattle.planner.specs.TableFacts.{put-is-table, put-due-after}
 use Rattle.planner.specs.CallFacts.{success-change, success-round, held-exactly, seventeen-exactly}
 use Rattle.planner.specs.AddFacts.{by-rules}
+use Rattle.planner.specs.ServeFacts.{due-after-start}
 use Rattle.planner.specs.declared.Planner.{Planner}
 use Rattle.planner.specs.declared.Changed.{Changed}
 use Rattle.planner.specs.declared.Rounded.{Rounded}
+use Rattle.demands.specs.HeldFacts.{ids-written}
+
+-- The n ids in the buffer are those of the packets that 01 names: "of the packets that may ride, the first B by due time, then id, written in that
+-- order". There is only one such list of packets (`slots-unique` of the rules).
+pub record WritesSlots (p : Planner) (after : List ℕ) (r : Rounded) : Type 0 where
+  pub packets : List Packet
+  pub are-slots : IsSlots (content p .slots) (r .start) (content p .table) packets
+  pub n : r .n ≡ length packets
+  pub ids : take (r .n) after ≡ map (λ (q : Packet). q .number) packets
 
 -- On a sound planner with a stream and a buffer of at least B places: there is a lazy start; held exactly if it is at most 1,000,000,000, and 17
--- if not; held, start, slots, buffer and planner are those of the lazy rule and the slot rule, which `IsHeldRound` states. That the slots stand by due
--- time, then id, and before every other packet that may ride, is `slots-in-order` and `slots-come-first` of the rules.
+-- if not; held, start, buffer and planner are those of the lazy rule and the slot rule, which `IsHeldRound` states, and the slots are those of 01,
+-- said of all packets that may ride.
 pub record RoundIsLazy (p : Planner) (before after : List ℕ) (r : Rounded) : Type 0 where
   pub has-start : (s : ℕ) × IsStart (content p) s
   pub exactly : (s : ℕ) → IsStart (content p) s → (r .answer ≡ 0) ↔ (s ≤ 1_000_000_000)
   pub seventeen : (s : ℕ) → IsStart (content p) s → (r .answer ≡ 17) ↔ (1_000_000_000 < s)
   pub held : r .answer ≡ 0 → IsHeldRound p before after r
+  pub slots : r .answer ≡ 0 → WritesSlots p after r
 
 -- Some plan serves the table, all starts put together: every start and the moment at 0.
 abbrev pub ServableTogether : Content → Type 0
@@ -56,6 +69,18 @@ pub record Demand2 : Type 0 where
       → (r : Rounded) → IsRound p before after r → RoundIsLazy p before after r
   pub add-is-exact : (p : Planner) → Sound p → (id start period deadline : ℕ) → IsOffer (content p) id start period deadline
       → (r : Changed) → IsAdd p id start period deadline r → AddIsExact (added (content p) id start period deadline) r
+
+-- a held round writes the ids of the first B packets that may ride
+held-writes-slots : (p : Planner) → Sound p → (before after : List ℕ) (r : Rounded) → IsHeldRound p before after r → WritesSlots p after r
+held-writes-slots p sound before after r held =
+    let h = content p in
+    let chosen = slots (h .slots) (r .start) (h .table) in
+    record {
+      packets = map (λ (x : Stream). packet x 0) chosen;
+      are-slots = slots-are-first (r .start) (h .table) (content-table h (sound .content-sound)) (due-after-start h (sound .content-sound) (r .start) (held .start)) (h .slots);
+      n = held .n ∙ simp length-map;
+      ids = ids-written p before after r held ∙ sym (map-map (λ (q : Packet). q .number) (λ (x : Stream). packet x 0) chosen);
+    }
 
 -- the three outcomes of an offer, with what can be served in each
 by-outcome : (h : Content) (r : Changed) → (r .answer ≡ 0 → IsSoundWith h (r .planner))
@@ -141,6 +166,7 @@ demand-2 =
             exactly = λ s start. subst⁻¹ (λ (n : ℕ). (n ≡ 0) ↔ (s ≤ 1_000_000_000)) (is .answer) (held-exactly p before sound some long s start);
             seventeen = λ s start. subst⁻¹ (λ (n : ℕ). (n ≡ 17) ↔ (1_000_000_000 < s)) (is .answer) (seventeen-exactly p before sound some long s start);
             held = success-round is;
+            slots = λ zero. held-writes-slots p sound before after r (success-round is zero);
           };
       add-is-exact = exact-add;
     }

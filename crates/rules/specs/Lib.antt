@@ -15,6 +15,7 @@ pub mod Equality
 pub mod DuePackets
 pub mod SlotFacts
 pub mod SlotOrder
+pub mod SlotPackets
 pub mod RoundKept
 pub mod PacketFacts
 pub mod Calls

@@ -1,7 +1,7 @@
--- The slots of a round are in order, come before every other packet that may ride, and are the only list that does.
+-- The slots of a round stand in order, and before every other stream whose unserved packet may ride.
 use mathlib.Core.Path.{_≡_, refl, sym, ap, subst⁻¹}
 use mathlib.Core.Bool.{Bool, true, false, cond, _&&_, _||_, true≢false, false≢true}
-use mathlib.Core.Logic.{_⊎_, inl, inr, _↔_, Or·elim}
+use mathlib.Core.Logic.{inl, inr, Or·elim}
 use mathlib.Core.HLevel.{hedberg, ×-prop}
 use mathlib.Core.List.{List, [], _∷_, _++_, List·Mem, Pairwise, Pairwise·nil, Pairwise·cons, pairwise-cons, pairwise-append, Pairwise·filter, Pairwise·of-map, Perm·mem-iff, not-mem-nil, mem-cons-self, mem-cons-of-mem, mem-append, eq-or-mem-of-mem-cons}
 use Prim.Native.Nat.{ℕ, _≤_, _<_}
@@ -12,36 +12,39 @@ use native.Mathlib.Omega.{arith}
 use lib.Dec.{leb, ltb, eqb}
 use lib.ListN.{take, drop, take-append-drop}
 use borrow.Author.Tests.{ltb-true, ltb-false, eqb-true, eqb-false, leb-true, leb-false}
-use Rattle.basics.specs.Sorted.{sorted-unique}
-use Rattle.rules.specs.Streams.{Stream, packet, due, IsTable}
-use Rattle.rules.specs.Slots.{may-ride, riders, goes-before, put-in-order, in-order, slots}
-use Rattle.rules.specs.Equality.{stream-set}
+use Rattle.rules.specs.Streams.{Stream, Packet, packet, due, IsTable}
+use Rattle.rules.specs.Slots.{may-ride, riders, ComesBefore, goes-before, put-in-order, in-order, slots}
 use Rattle.rules.specs.SlotFacts.{put-perm, in-order-perm}
 
--- x comes before y: it is due earlier, or due at the same time with a smaller number
+-- the order of packets is strict, and holds in one way only
+pub before-asym : (p q : Packet) → ComesBefore p q → ComesBefore q p → ⊥
+before-asym p q (inl a) (inl b) = omega arith
+before-asym p q (inl a) (inr b) = omega (arith, b .0)
+before-asym p q (inr a) (inl b) = omega (arith, a .0)
+before-asym p q (inr a) (inr b) = omega (arith, a .1, b .1)
+
+before-trans : (p q r : Packet) → ComesBefore p q → ComesBefore q r → ComesBefore p r
+before-trans p q r (inl a) (inl b) = inl (omega arith)
+before-trans p q r (inl a) (inr b) = inl (omega (arith, b .0))
+before-trans p q r (inr a) (inl b) = inl (omega (arith, a .0))
+before-trans p q r (inr a) (inr b) = inr (omega (arith, a .0, b .0), omega (arith, a .1, b .1))
+
+pub before-prop : (p q : Packet) → IsProp (ComesBefore p q)
+before-prop p q (inl a) (inl b) = ap inl (le-prop a b)
+before-prop p q (inl a) (inr b) = absurd (lt-irrefl (p .due) (omega (arith, b .0)))
+before-prop p q (inr a) (inl b) = absurd (lt-irrefl (p .due) (omega (arith, a .0)))
+before-prop p q (inr a) (inr b) = ap inr (×-prop (hedberg ℕ-discrete (p .due) (q .due)) le-prop a b)
+
+-- the first unserved packet of a stream
+abbrev unserved : Stream → Packet
+unserved x = record { number = x .number; release = x .release; due = due x }
+
+-- x comes before y: its unserved packet is due earlier, or due at the same time with a smaller number
 abbrev pub Earlier : Stream → Stream → Type 0
-Earlier x y = (due x < due y) ⊎ ((due x ≡ due y) × (x .number < y .number))
+Earlier x y = ComesBefore (unserved x) (unserved y)
 
 abbrev Differ : Stream → Stream → Type 0
 Differ x y = x .number ≡ y .number → ⊥
-
-pub earlier-asym : (x y : Stream) → Earlier x y → Earlier y x → ⊥
-earlier-asym x y (inl a) (inl b) = omega arith
-earlier-asym x y (inl a) (inr b) = omega (arith, b .0)
-earlier-asym x y (inr a) (inl b) = omega (arith, a .0)
-earlier-asym x y (inr a) (inr b) = omega (arith, a .1, b .1)
-
-earlier-trans : (x y z : Stream) → Earlier x y → Earlier y z → Earlier x z
-earlier-trans x y z (inl a) (inl b) = inl (omega arith)
-earlier-trans x y z (inl a) (inr b) = inl (omega (arith, b .0))
-earlier-trans x y z (inr a) (inl b) = inl (omega (arith, a .0))
-earlier-trans x y z (inr a) (inr b) = inr (omega (arith, a .0, b .0), omega (arith, a .1, b .1))
-
-earlier-prop : (x y : Stream) → IsProp (Earlier x y)
-earlier-prop x y (inl a) (inl b) = ap inl (le-prop a b)
-earlier-prop x y (inl a) (inr b) = absurd (lt-irrefl (due x) (omega (arith, b .0)))
-earlier-prop x y (inr a) (inl b) = absurd (lt-irrefl (due x) (omega (arith, a .0)))
-earlier-prop x y (inr a) (inr b) = ap inr (×-prop (hedberg ℕ-discrete (due x) (due y)) le-prop a b)
 
 -- the test of the order decides it between streams of different numbers
 before-yes : (x y : Stream) → Differ x y → goes-before x y ≡ true → Earlier x y
@@ -82,10 +85,11 @@ put-keeps-order x (y ∷ ys) sorted differ = go (goes-before x y) refl (put-keep
     go true e below =
         let first = before-yes x y (differ y mem-cons-self) e in
         Pairwise·cons {a = x}
-        (λ z m. Or·elim (earlier-prop x z) (eq-or-mem-of-mem-cons m) (λ same. subst⁻¹ (Earlier x) same first) (λ m′. earlier-trans x y z first (later z m′))) sorted
+        (λ z m. Or·elim (before-prop (unserved x) (unserved z)) (eq-or-mem-of-mem-cons m) (λ same. subst⁻¹ (Earlier x) same first)
+        (λ m′. before-trans (unserved x) (unserved y) (unserved z) first (later z m′))) sorted
     go false e below =
         Pairwise·cons {a = y}
-        (λ z m. Or·elim (earlier-prop y z) (eq-or-mem-of-mem-cons (Perm·mem-iff (put-perm x ys) .0 m))
+        (λ z m. Or·elim (before-prop (unserved y) (unserved z)) (eq-or-mem-of-mem-cons (Perm·mem-iff (put-perm x ys) .0 m))
         (λ same. subst⁻¹ (Earlier y) same (before-no x y (differ y mem-cons-self) e)) (later z)) below
 
 -- streams of different numbers are put in order
@@ -104,12 +108,6 @@ module _ (s : ℕ) (ss : List Stream) (table : IsTable ss) where
   pub line-in-order : InSlotOrder (in-order (riders s ss))
   line-in-order = in-order-is-sorted (riders s ss) riders-differ
 
-  -- a list in order of just the packets that may ride is that line, however it was made
-  pub line-unique : (xs : List Stream) → InSlotOrder xs → ((x : Stream) → List·Mem x xs ↔ List·Mem x (riders s ss)) → xs ≡ in-order (riders s ss)
-  line-unique xs sorted same =
-      sorted-unique stream-set Earlier earlier-asym xs (in-order (riders s ss)) sorted line-in-order
-      (λ x m. Perm·mem-iff (in-order-perm (riders s ss)) .1 (same x .0 m)) (λ x m. same x .1 (Perm·mem-iff (in-order-perm (riders s ss)) .0 m))
-
   module _ (b : ℕ) where
     both-parts : InSlotOrder (take b (in-order (riders s ss)) ++ drop b (in-order (riders s ss)))
     both-parts = subst⁻¹ InSlotOrder (take-append-drop b (in-order (riders s ss))) line-in-order
@@ -117,13 +115,13 @@ module _ (s : ℕ) (ss : List Stream) (table : IsTable ss) where
     -- the slots stand in order ..
     pub slots-in-order : InSlotOrder (slots b s ss)
     unfolding slots
-    slots-in-order = pairwise-append earlier-prop {l₁ = take b (in-order (riders s ss))} {l₂ = drop b (in-order (riders s ss))} .0 both-parts .0
+    slots-in-order = pairwise-append (λ x y. before-prop (unserved x) (unserved y)) {l₁ = take b (in-order (riders s ss))} {l₂ = drop b (in-order (riders s ss))} .0 both-parts .0
 
-    -- .. and before every other packet that may ride
+    -- .. and before every other stream whose unserved packet may ride
     pub slots-come-first : (x y : Stream) → List·Mem x (slots b s ss) → List·Mem y (riders s ss) → (List·Mem y (slots b s ss) → ⊥) → Earlier x y
     unfolding slots
     slots-come-first x y chosen rides left =
         let line = in-order (riders s ss) in
         let there : List·Mem y (take b line ++ drop b line) = subst⁻¹ (λ (l : List Stream). List·Mem y l) (take-append-drop b line) (Perm·mem-iff (in-order-perm (riders s ss)) .1 rides) in
-        Or·elim (earlier-prop x y) (mem-append .0 there) (λ first. absurd (left first))
-        (λ later. pairwise-append earlier-prop {l₁ = take b line} {l₂ = drop b line} .0 both-parts .2 x chosen y later)
+        Or·elim (before-prop (unserved x) (unserved y)) (mem-append .0 there) (λ first. absurd (left first))
+        (λ later. pairwise-append (λ x y. before-prop (unserved x) (unserved y)) {l₁ = take b line} {l₂ = drop b line} .0 both-parts .2 x chosen y later)

@@ -1,12 +1,31 @@
 -- The slots of a round, and the table after it.
+use mathlib.Core.Path.{_≡_}
 use mathlib.Core.Bool.{Bool, cond, _&&_, _||_}
-use mathlib.Core.Logic.{ite, Dec·and}
-use mathlib.Core.List.{List, [], _∷_, List·Mem, map, filter, decMem}
-use Prim.Native.Nat.{ℕ, _+_}
+use mathlib.Core.Logic.{_⊎_, ite, Dec·and}
+use mathlib.Core.List.{List, [], _∷_, List·Mem, Pairwise, map, filter, decMem}
+use Prim.Native.Nat.{ℕ, _+_, _≤_, _<_}
 use native.Mathlib.Decide.{decLe, ℕ-discrete}
 use lib.Dec.{leb, ltb, eqb}
-use lib.ListN.{take}
-use Rattle.rules.specs.Streams.{Stream, Packet, packet, due, MayRide}
+use lib.ListN.{length, take}
+use Rattle.rules.specs.Streams.{Stream, Packet, packet, due, MayRide, PacketOf}
+
+-- 01: "by due time, then id": p comes before q.
+abbrev pub ComesBefore : Packet → Packet → Type 0
+ComesBefore p q = (p .due < q .due) ⊎ ((p .due ≡ q .due) × (p .number < q .number))
+
+-- q is one "of the packets that may ride" in a round at s: whichever packet of its stream it is, from the unserved one on.
+abbrev pub IsRider : ℕ → List Stream → Packet → Type 0
+IsRider s ss q = PacketOf ss q × MayRide q s
+
+-- 01: "Slots: of the packets that may ride, the first B by due time, then id, written in that order": they come before each one that is left
+-- out, and one is left out only where there are b of them. There is only one such list; in a table whose unserved packets are all due after s
+-- it has the unserved packets of the streams that `slots` below computes.
+pub record IsSlots (b s : ℕ) (ss : List Stream) (qs : List Packet) : Type 0 where
+  pub ride : (q : Packet) → List·Mem q qs → IsRider s ss q
+  pub ordered : Pairwise ComesBefore qs
+  pub few : length qs ≤ b
+  pub first : (p q : Packet) → List·Mem p qs → IsRider s ss q → (List·Mem q qs → ⊥) → ComesBefore p q
+  pub full : (q : Packet) → IsRider s ss q → (List·Mem q qs → ⊥) → length qs ≡ b
 
 -- Whether a packet may ride can be decided.
 abbrev pub may-ride : (q : Packet) (s : ℕ) → Dec (MayRide q s)
@@ -16,7 +35,7 @@ may-ride q s = Dec·and (decLe (q .release) s) (decLe (s + 1) (q .due))
 unfoldable pub riders : ℕ → List Stream → List Stream
 riders s ss = filter (λ (x : Stream). may-ride (packet x 0) s) ss
 
--- 01: "by due time, then id": x goes before y.
+-- Whether the unserved packet of x goes before that of y, by due time, then number.
 unfoldable pub goes-before : Stream → Stream → Bool
 goes-before x y = ltb (due x) (due y) || (eqb (due x) (due y) && leb (x .number) (y .number))
 
@@ -30,7 +49,7 @@ unfoldable pub in-order : List Stream → List Stream
 in-order [] = []
 in-order (x ∷ xs) = put-in-order x (in-order xs)
 
--- 01: "Slots: of the packets that may ride, the first B by due time, then id, written in that order".
+-- The slots as streams: those whose unserved packets are the first b of the packets that may ride, in that order.
 unfoldable pub slots : ℕ → ℕ → List Stream → List Stream
 slots b s ss = take b (in-order (riders s ss))
 

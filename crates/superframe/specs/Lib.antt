@@ -7,4 +7,4 @@ pub mod Superframe
 pub mod SuperframeFacts
 pub mod Inner
 pub mod PeriodTests
-pub mod Cases
+pub mod SuperframeTests

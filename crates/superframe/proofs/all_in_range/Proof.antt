@@ -1,5 +1,5 @@
 -- `superframe::all_in_range` meets its contract: every period before i is in range, and one that is not ends the search.
-use mathlib.Core.Bool.{false, true≢false, false≢true}
+use mathlib.Core.Bool.{false, true≢false}
 use mathlib.Core.List.{List, not-mem-nil}
 use mathlib.Core.HLevel.{×-prop}
 use Prim.Native.Nat.{ℕ, _≤_, _<_, _-_}
@@ -9,7 +9,7 @@ use native.Mathlib.Omega.{arith}
 use lib.ListN.{length, take, getD}
 use lib.Seq.{take-all}
 use Rattle.superframe.specs.Periods.{InRange, AllInRange}
-use Rattle.basics.specs.Decides.{Decides, decides-yes, decides-no}
+use Rattle.basics.specs.Decides.{Decides, decides-no}
 use Rattle.superframe.proofs.Prefix.{take-next, all-snoc, mem-getD}
 use Rattle.superframe.proofs.all_in_range.Statement.{statement}
 use Rattle.superframe.proofs.all_in_range.Tie as tie

@@ -7,7 +7,7 @@ use native.Mathlib.Decide.{decLe, decLt}
 use lib.ListN.{replicate}
 use Rattle.basics.specs.Refusals.{Refusal, answer-of}
 use Rattle.table.specs.Table.{no-stream}
-use Rattle.queue.specs.Calls.{HasEntries}
+use Rattle.queue.specs.Layout.{empty-queue}
 use Rattle.planner.specs.Content.{Content, content}
 use Rattle.planner.specs.declared.Planner.{Planner}
 use Rattle.planner.specs.declared.Changed.{Changed}
@@ -32,11 +32,14 @@ opened b f g t = record { slots = b; frame = f; gap = g; last = t; table = [] }
 abbrev pub closed : Content
 closed = opened 0 0 0 0
 
--- A planner with these numbers, no stream, zeros at every place for one, and an empty queue.
+-- The planner with these numbers, no stream, zeros at every place for one, and the empty queue.
+abbrev pub fresh : ℕ → ℕ → ℕ → ℕ → Planner
+fresh b f g t = record { slots = b; frame = f; gap = g; last = t; table = record { count = 0; streams = replicate 64 no-stream }; queue = empty-queue }
+
+-- It is that planner, so nothing about it is left free, and holds what was passed.
 pub record IsFresh (b f g t : ℕ) (p : Planner) : Type 0 where
+  pub whole : p ≡ fresh b f g t
   pub holds : content p ≡ opened b f g t
-  pub table : p .table ≡ record { count = 0; streams = replicate 64 no-stream }
-  pub queue : HasEntries (p .queue) []
 
 -- Open gives the answer of its refusals; the planner holds what was passed, or is the closed one if refused.
 pub record IsOpened (b f g t : ℕ) (r : Changed) : Type 0 where

@@ -20,10 +20,10 @@ pub mod InOrder
 pub mod Laws
 use mathlib.Core.Path.{_≡_}
 use mathlib.Core.Logic.{_⊎_, ite}
-use mathlib.Core.List.{List, []}
+use mathlib.Core.List.{List, [], _∷_, _++_}
 use Prim.Native.Nat.{ℕ, zero, suc, _+_, _-_, _%_, _≤_, _<_}
 use native.Mathlib.Decide.{decLe, decLt}
-use lib.ListN.{getD}
+use lib.ListN.{getD, replicate}
 use Rattle.queue.specs.Order.{Entry}
 use Rattle.queue.specs.Entries.{put}
 use Rattle.queue.specs.declared.Queue.{Queue}
@@ -31,6 +31,19 @@ use Rattle.queue.specs.declared.Queue.{Queue}
 -- A queue of these ids, keys and links.
 abbrev pub queue-of : (ids keys next prev : List ℕ) → Queue
 queue-of ids keys next prev = record { ids = ids; keys = keys; next = next; prev = prev }
+
+-- The n numbers from x on.
+pub numbers-from : ℕ → ℕ → List ℕ
+numbers-from x zero = []
+numbers-from x (suc n) = x ∷ numbers-from (suc x) n
+
+-- The links of an empty queue: 0 at its places, and each of its 480 heads, nodes 64 on, its own neighbour.
+pub lone-heads : List ℕ
+lone-heads = replicate 64 0 ++ numbers-from 64 480
+
+-- The empty queue, the same in every place: id 0 and key 0 at each, and no link from a head to another node.
+pub empty-queue : Queue
+empty-queue = queue-of (replicate 64 0) (replicate 64 0) lone-heads lone-heads
 
 -- The id and the key at a place, and the links of a node.
 abbrev pub id-at : Queue → ℕ → ℕ

@@ -10,7 +10,6 @@ ghost use Rattle.planner.specs.Inner.{CanChoose, CanServeAll, IsChosen, 
 use super::Planner;
 use queue::Queue;
 use queue::move_at_sound;
-use table::Stream;
 use table::Table;
 
 // The ids chosen for a round, in the first n places, and beside each its stream's row in the table and its place in the queue.

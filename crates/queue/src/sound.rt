@@ -1,6 +1,6 @@
 // The changes behind the tests: each relies on a sound queue and on what the refusals would have found.
 ghost use mathlib.Core.Path.{_≡_};
-ghost use Prim.Native.Nat.{_+_, _<_, _≤_};
+ghost use Prim.Native.Nat.{_+_, _<_};
 ghost use Rattle.basics.specs.Decides.{Decides};
 ghost use Rattle.queue.specs.Entries.{without};
 ghost use Rattle.queue.specs.Layout.{queue-of, entries};

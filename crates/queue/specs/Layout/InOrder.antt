@@ -1,5 +1,5 @@
 -- The walk over all entries in order: what has been met, and where it stands.
-use mathlib.Core.Path.{_≡_, sym, ap, subst, subst⁻¹, _∙_}
+use mathlib.Core.Path.{_≡_, sym, ap, subst⁻¹, _∙_}
 use mathlib.Core.Logic.{inl, inr, _⊎_, ∥∥₁-elim, ∥∥₁-map, if-neg}
 use mathlib.Core.List.{List, _∷_, List·Mem, pairwise-cons, filter-eq-self}
 use Prim.Native.Nat.{ℕ, zero, suc, _+_, _%_, _≤_, _<_}

@@ -9,12 +9,12 @@ use native.Mathlib.Decide.{ℕ-discrete}
 use native.Mathlib.Omega.{arith}
 use lib.ListN.{length, getD-replicate}
 use Rattle.queue.specs.Order.{Entry}
-use Rattle.queue.specs.Entries.{without, key-of, InBounds}
+use Rattle.queue.specs.Entries.{without, key-of}
 use Rattle.queue.specs.Layout.{id-at, key-at, entries, empty-queue, Sound}
 use Rattle.queue.specs.Calls.{inserted, moved, HasEntries}
 use Rattle.queue.specs.EntryFacts.{InOrder, entry-set, in-put, put-new, put-old}
 use Rattle.queue.specs.Layout.Collected.{entry, of-collected, collected-in-order, collected-length}
-use Rattle.queue.specs.Layout.SoundFacts.{sound-once, sound-in-bounds}
+use Rattle.queue.specs.Layout.SoundFacts.{sound-once}
 use Rattle.queue.specs.Layout.Change.{key-of-only}
 use Rattle.queue.specs.Layout.Heads.{lone-heads-alone, alone-empty}
 use Rattle.queue.specs.declared.Queue.{Queue}
@@ -52,10 +52,6 @@ module _ (q : Queue) (sound : Sound q) where
       ∙ (ap (entry (id-at q) (key-at q))
       (sound-once q sound (v .0) (w .0) (v .1) (w .1) (v .2) (sym (ap (λ (a : Entry). a .id) (v .3)) ∙ (same ∙ ap (λ (a : Entry). a .id) (w .3))))
       ∙ sym (w .3))))
-
-  -- keys are at most 2,000,000,000 and at most 479 apart
-  pub entries-in-bounds : InBounds (entries q)
-  entries-in-bounds = sound-in-bounds q sound
 
 -- an entry is left by `without` exactly if it was there under another id
 pub in-without-iff : (id : ℕ) (es : List Entry) (e : Entry) → List·Mem e (without id es) ↔ (List·Mem e es × (e .id ≡ id → ⊥))

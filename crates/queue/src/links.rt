@@ -4,12 +4,7 @@ ghost use Prim.Native.Nat.{_+_, _%_, _<_};
 ghost use lib.ListN.{getD};
 ghost use Rattle.queue.specs.Layout.{queue-of, Sound};
 ghost use Rattle.queue.specs.Inner.{IsPlaceOf, CanPut, put-before, CanTake, taken-out, IsPosition, IsNew};
-
-pub fn wide(x: u16) -> u32
-    ensures { λ r. ⌜ r ≡ x ⌝ }
-{
-    x as u32
-}
+use basics::wide;
 
 // The place of an id, or 64 where no place has it; of id 0, the first free place.
 pub fn place_of(ids: &[u16; 64], id: u32) -> usize

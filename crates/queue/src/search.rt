@@ -9,8 +9,8 @@ ghost use Rattle.queue.specs.Inner.{SearchFrom, IsFirstAfter};
 use super::Found;
 use super::Queue;
 use super::links::node_at;
-use super::links::wide;
 use super::soundness::least_key;
+use basics::wide;
 
 // Whether the pair of key and id comes after another.
 fn is_after(key: u32, id: u32, than_key: u32, than_id: u32) -> bool

@@ -11,9 +11,10 @@ use super::links::place_of;
 use super::links::position_sound;
 use super::links::put_before;
 use super::links::take_out;
-use super::links::wide as id_of;
+use basics::wide;
 
-fn wide(key: u32) -> u64
+// A key in 64 bits, as the sum of two is.
+fn wide_key(key: u32) -> u64
     ensures { λ r. ⌜ r ≡ key ⌝ }
 {
     key as u64
@@ -37,7 +38,7 @@ fn place_fits<'a>(ids: &'a [u16; 64], keys: &'a [u32; 64], out: usize, key: u64,
     if ids[i] == 0 {
         return true;
     }
-    let there = wide(keys[i]);
+    let there = wide_key(keys[i]);
     if there < key {
         if 479 < key - there {
             return false;
@@ -130,7 +131,7 @@ pub fn move_at_sound<'a>(
     let id = ids[x];
     let key = keys[x] + amount;
     take_out(ids, keys, next, prev, x);
-    let n = position_sound(ids, keys, next, prev, key, id_of(id));
+    let n = position_sound(ids, keys, next, prev, key, wide(id));
     put_before(ids, keys, next, prev, x, id, key, n);
 }
 

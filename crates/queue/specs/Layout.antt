@@ -78,9 +78,17 @@ entries q = collected (id-at q) (key-at q) 64
 abbrev pub IsNode : (ids : ℕ → ℕ) → ℕ → Type 0
 IsNode ids x = ((x < 64) × (1 ≤ ids x)) ⊎ ((64 ≤ x) × (x < 544))
 
--- The bucket of a node: an entry's key modulo 480, a head's own.
+-- The bucket of a key: there are 480, in a circle.
+abbrev pub bucket-of-key : ℕ → ℕ
+bucket-of-key key = key % 480
+
+-- The bucket after a bucket, round the circle.
+abbrev pub bucket-after : ℕ → ℕ
+bucket-after bucket = (bucket + 1) % 480
+
+-- The bucket of a node: that of an entry's key, a head's own.
 pub bucket-of : (keys : ℕ → ℕ) → ℕ → ℕ
-bucket-of keys x = ite (decLt x 64) (keys x % 480) (x - 64)
+bucket-of keys x = ite (decLt x 64) (bucket-of-key (keys x)) (x - 64)
 
 -- Ids rise along a list from its head, which counts as 0 where the list leaves it and as 32,768 where the list comes back to it.
 pub low : (ids : ℕ → ℕ) → ℕ → ℕ

@@ -11,6 +11,7 @@ use super::links::place_of;
 use super::links::position_sound;
 use super::links::put_before;
 use super::links::take_out;
+use super::soundness::KEY_LIMIT;
 use basics::wide;
 
 // A key in 64 bits, as the sum of two is.
@@ -55,7 +56,7 @@ fn place_fits<'a>(ids: &'a [u16; 64], keys: &'a [u32; 64], out: usize, key: u64,
 pub fn key_fits<'a>(ids: &'a [u16; 64], keys: &'a [u32; 64], out: usize, key: u64) -> bool
     ensures { λ r. ⌜ Decides r (KeyFits (now (ids .entry)) (now (keys .entry)) out key) ⌝ }
 {
-    if 2000000000 < key {
+    if (KEY_LIMIT as u64) < key {
         return false;
     }
     let mut i = 0;

@@ -6,17 +6,15 @@ use Prim.Native.Nat.{ℕ, _≤_, _<_}
 use native.Mathlib.Nat.{lt-irrefl}
 use native.Mathlib.Decide.{decLe}
 use native.Mathlib.Omega.{arith}
-use lib.ListN.{replicate}
 use Rattle.basics.specs.Refusals.{answer-of, answer-zero}
 use Rattle.rules.specs.Demand.{demand, future}
-use Rattle.table.specs.Table.{no-stream}
 use Rattle.queue.specs.Order.{Entry}
 use Rattle.queue.specs.Layout.{empty-queue}
 use Rattle.queue.specs.Layout.Laws.{empty-has-none}
 use Rattle.queue.specs.declared.Queue.{Queue}
 use Rattle.planner.specs.Content.{Content}
 use Rattle.planner.specs.Sound.{ContentSound, Sound}
-use Rattle.planner.specs.Open.{not-in, late, open-refusals, opened, IsFresh, IsOpened}
+use Rattle.planner.specs.Open.{not-in, late, open-refusals, opened, no-streams, IsFresh, IsOpened}
 use Rattle.planner.specs.declared.Planner.{Planner}
 use Rattle.planner.specs.declared.Changed.{Changed}
 
@@ -31,8 +29,7 @@ opened-sound b f g t slots frame gap last =
     }
 
 -- the empty queue is all that a planner with these numbers and no stream wants
-pub with-empty-queue : (b f g t : ℕ) (q : Queue) → q ≡ empty-queue
-    → IsFresh b f g t (record { slots = b; frame = f; gap = g; last = t; table = record { count = 0; streams = replicate 64 no-stream }; queue = q })
+pub with-empty-queue : (b f g t : ℕ) (q : Queue) → q ≡ empty-queue → IsFresh b f g t (record { slots = b; frame = f; gap = g; last = t; table = no-streams; queue = q })
 with-empty-queue b f g t q is = record { whole = rw is; holds = refl }
 
 -- 01: "A successful open gives a sound planner."

@@ -41,7 +41,7 @@ numbers-from x (suc n) = x ∷ numbers-from (suc x) n
 pub lone-heads : List ℕ
 lone-heads = replicate 64 0 ++ numbers-from 64 480
 
--- The empty queue, the same in every place: id 0 and key 0 at each, and no link from a head to another node.
+-- The empty queue, one value: id 0 and key 0 at every place, and no link from a head to another node.
 pub empty-queue : Queue
 empty-queue = queue-of (replicate 64 0) (replicate 64 0) lone-heads lone-heads
 

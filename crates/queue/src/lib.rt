@@ -47,7 +47,7 @@ pub struct Found {
     pub id: u32,
 }
 
-// A queue with nothing filed: every bucket's head is its own neighbour.
+// The queue with nothing filed: zeros at every place, and every bucket's head its own neighbour.
 pub fn empty() -> Queue
     ensures { λ r. ⌜ r ≡ empty-queue ⌝ }
 {

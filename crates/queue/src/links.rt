@@ -1,6 +1,6 @@
 // Places and links: finding a place, and putting an entry between two nodes or taking it out.
 ghost use mathlib.Core.Path.{_≡_};
-ghost use Prim.Native.Nat.{_+_, _%_, _<_};
+ghost use Prim.Native.Nat.{_+_, _<_};
 ghost use lib.ListN.{getD};
 ghost use Rattle.queue.specs.Layout.{queue-of, bucket-of-key, Sound};
 ghost use Rattle.queue.specs.Inner.{IsPlaceOf, CanPut, put-before, CanTake, taken-out, IsPosition, IsNew};

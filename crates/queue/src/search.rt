@@ -1,6 +1,6 @@
 // The search for the first entry after a pair of key and id.
 ghost use mathlib.Core.Path.{_≡_};
-ghost use Prim.Native.Nat.{_+_, _<_};
+ghost use Prim.Native.Nat.{_<_};
 ghost use Rattle.basics.specs.Decides.{Decides};
 ghost use Rattle.queue.specs.Order.{Before};
 ghost use Rattle.queue.specs.Layout.{bucket-after, Sound};

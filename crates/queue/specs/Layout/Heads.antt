@@ -30,7 +30,7 @@ lone-heads-size : length lone-heads ≡ 544
 unfolding lone-heads
 lone-heads-size = simp numbers-from-size
 
-pub lone-heads-free : (i : ℕ) → i < 64 → getD lone-heads i 0 ≡ 0
+lone-heads-free : (i : ℕ) → i < 64 → getD lone-heads i 0 ≡ 0
 unfolding lone-heads
 lone-heads-free i below = List·getD-append (replicate 64 0) (numbers-from 64 480) 0 i below ∙ getD-replicate 64 i 0 0 below
 

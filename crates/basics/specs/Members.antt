@@ -1,5 +1,5 @@
 -- What stands at a place of a list is in it.
-use mathlib.Core.List.{List, [], _∷_, List·Mem, mem-cons-self, mem-cons-of-mem}
+use mathlib.Core.List.{List, _∷_, List·Mem, mem-cons-self, mem-cons-of-mem}
 use Prim.Native.Nat.{ℕ, zero, suc, _<_}
 use native.Mathlib.Omega.{arith}
 use lib.ListN.{length, getD}

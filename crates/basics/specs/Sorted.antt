@@ -1,7 +1,7 @@
 -- Two lists in one strict order with the same elements are one list.
 use mathlib.Core.Path.{_≡_, refl, sym, subst, ap₂}
 use mathlib.Core.Logic.{Or·elim}
-use mathlib.Core.List.{List, [], _∷_, List·Mem, List·isSet, Pairwise, pairwise-cons, mem-cons-self, mem-cons-of-mem, not-mem-nil, eq-or-mem-of-mem-cons, List·Mem-prop}
+use mathlib.Core.List.{List, [], _∷_, List·Mem, Pairwise, pairwise-cons, mem-cons-self, mem-cons-of-mem, not-mem-nil, eq-or-mem-of-mem-cons, List·Mem-prop}
 
 module _ {A : Type 0} (set : IsSet A) (R : A → A → Type 0) (asymmetric : (a b : A) → R a b → R b a → ⊥) where
   -- heads of two such lists are equal

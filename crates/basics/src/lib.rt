@@ -1,6 +1,14 @@
-// Notions that several crates share: deciding, refusals in order, lists in order, and a number's place among 64 that rise.
+// Notions that several crates share: deciding, refusals in order, lists in order, a number's place among 64 that rise, and a number in more bits.
+ghost use mathlib.Core.Path.{_≡_};
 ghost use Prim.Native.Nat.{_+_, _≤_};
 ghost use Rattle.basics.specs.Places.{Rises, IsPlaceAmong, IsUpper};
+
+// A number of 16 bits in 32.
+pub fn wide(x: u16) -> u32
+    ensures { λ r. ⌜ r ≡ x ⌝ }
+{
+    x as u32
+}
 
 // The lower end for the next half: past this one if it ends below x.
 fn upper(low: usize, step: usize, there: u32, x: u32) -> usize
@@ -14,7 +22,7 @@ fn upper(low: usize, step: usize, there: u32, x: u32) -> usize
 }
 
 // How many of 64 rising numbers are less than x, 63 at most, found by halving.
-pub fn place_among(values: &[u32; 64], x: u32) -> usize
+pub fn place_among_rising(values: &[u32; 64], x: u32) -> usize
     requires { ⌜ Rises (now values) ⌝ }
     ensures { λ r. ⌜ IsPlaceAmong (now (values .entry)) x r ⌝ }
 {

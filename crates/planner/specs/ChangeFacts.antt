@@ -1,8 +1,8 @@
 -- A planner put together again after a change: it holds what the change says, and it is sound.
-use mathlib.Core.Path.{_≡_, refl, sym, ap, subst, subst⁻¹, _∙_}
+use mathlib.Core.Path.{_≡_, refl, sym, ap, subst⁻¹, _∙_}
 use mathlib.Core.Logic.{Dec·not-not}
 use mathlib.Core.List.{List, [], _∷_}
-use Prim.Native.Nat.{ℕ, _≤_, _<_}
+use Prim.Native.Nat.{ℕ, _≤_}
 use native.Mathlib.Nat.{lt-irrefl}
 use native.Mathlib.Omega.{arith}
 use Rattle.basics.specs.Refusals.{Refusal, answer-of, answer-zero}
@@ -21,7 +21,6 @@ use Rattle.planner.specs.Calls.{unsound, not-held, remove-refusals, remo
 use Rattle.planner.specs.Kept.{removed-sound}
 use Rattle.planner.specs.FilesFacts.{files-without}
 use Rattle.planner.specs.declared.Planner.{Planner}
-use Rattle.planner.specs.declared.Changed.{Changed}
 
 -- a planner that holds a sound content, with a queue that files its streams, is sound
 pub is-sound-with : (h : Content) (p : Planner) → content p ≡ h → p .table .count ≤ 64 → ContentSound h → (es : List Entry) → HasEntries (p .queue) es → Files es (h .table) → IsSoundWith h p

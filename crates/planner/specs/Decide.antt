@@ -1,7 +1,7 @@
 -- Soundness of a planner can be decided, on any value whatever.
-use mathlib.Core.Path.{_≡_, sym, subst}
+use mathlib.Core.Path.{sym, subst}
 use mathlib.Core.Logic.{Dec·and, ∥∥₁-elim}
-use mathlib.Core.List.{List, List·Mem, List·Mem-prop, Pairwise, decidableBAll, decidableBEx, decMem, instDecidablePairwise}
+use mathlib.Core.List.{List, List·Mem, List·Mem-prop, decidableBAll, decidableBEx, decMem, instDecidablePairwise}
 use Prim.Native.Nat.{ℕ, _+_, _≤_}
 use native.Mathlib.Decide.{decLe, decLt, decDvd, map-dec}
 use lib.ListN.{length}

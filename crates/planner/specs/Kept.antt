@@ -12,11 +12,11 @@ use Rattle.rules.specs.Demand.{DemandRule, StartRule}
 use Rattle.rules.specs.Slots.{slots, passed, after-round}
 use Rattle.rules.specs.Sums.{all-map}
 use Rattle.rules.specs.LazyStart.{fits-lazy}
-use Rattle.rules.specs.RoundKept.{passed-elim, IsReady, round-kept, round-near}
+use Rattle.rules.specs.RoundKept.{passed-elim, round-kept, round-near}
 use Rattle.table.specs.Range.{StreamInRange, AreNear}
 use Rattle.planner.specs.Content.{Content, now-of, cap-of}
 use Rattle.planner.specs.Sound.{InRange, ContentSound}
-use Rattle.planner.specs.SoundFacts.{all-formed, fits-now, content-ready}
+use Rattle.planner.specs.SoundFacts.{fits-now, content-ready}
 use Rattle.planner.specs.Calls.{offered, added, removed, IsOffer}
 use Rattle.planner.specs.Round.{IsStart, rounded}
 use Rattle.planner.specs.TableFacts.{put-all, put-by-id-length, put-by-id-ascending, in-without-id, without-id-ascending, without-id-length, demand-without, future-without}

@@ -7,7 +7,8 @@ use native.Mathlib.Decide.{decLe, decLt}
 use lib.ListN.{replicate}
 use Rattle.basics.specs.Refusals.{Refusal, answer-of}
 use Rattle.table.specs.Table.{no-stream}
-use Rattle.queue.specs.Calls.{HasEntries}
+use Rattle.table.specs.declared.Table.{Table}
+use Rattle.queue.specs.Layout.{empty-queue}
 use Rattle.planner.specs.Content.{Content, content}
 use Rattle.planner.specs.declared.Planner.{Planner}
 use Rattle.planner.specs.declared.Changed.{Changed}
@@ -32,11 +33,18 @@ opened b f g t = record { slots = b; frame = f; gap = g; last = t; table = [] }
 abbrev pub closed : Content
 closed = opened 0 0 0 0
 
--- A planner with these numbers, no stream, zeros at every place for one, and an empty queue.
+-- A table with no stream, and zeros at every place for one.
+abbrev pub no-streams : Table
+no-streams = record { count = 0; streams = replicate 64 no-stream }
+
+-- The planner with these numbers, no stream and the empty queue.
+abbrev pub fresh : ℕ → ℕ → ℕ → ℕ → Planner
+fresh b f g t = record { slots = b; frame = f; gap = g; last = t; table = no-streams; queue = empty-queue }
+
+-- A planner is the fresh one, so that nothing of it is left free, and holds what was passed.
 pub record IsFresh (b f g t : ℕ) (p : Planner) : Type 0 where
+  pub whole : p ≡ fresh b f g t
   pub holds : content p ≡ opened b f g t
-  pub table : p .table ≡ record { count = 0; streams = replicate 64 no-stream }
-  pub queue : HasEntries (p .queue) []
 
 -- Open gives the answer of its refusals; the planner holds what was passed, or is the closed one if refused.
 pub record IsOpened (b f g t : ℕ) (r : Changed) : Type 0 where

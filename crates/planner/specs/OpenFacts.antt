@@ -1,5 +1,5 @@
 -- A successful opening gives a sound planner, and the closed planner is not sound.
-use mathlib.Core.Path.{_≡_, sym, ap, subst, _∙_}
+use mathlib.Core.Path.{_≡_, refl, sym, subst, subst⁻¹, _∙_}
 use mathlib.Core.Logic.{∥∥₁-elim, Dec·and, Dec·not-not}
 use mathlib.Core.List.{List, [], _∷_, List·Mem, List·Mem-prop, Pairwise·nil, not-mem-nil}
 use Prim.Native.Nat.{ℕ, _≤_, _<_}
@@ -8,11 +8,13 @@ use native.Mathlib.Decide.{decLe}
 use native.Mathlib.Omega.{arith}
 use Rattle.basics.specs.Refusals.{answer-of, answer-zero}
 use Rattle.rules.specs.Demand.{demand, future}
-use Rattle.table.specs.declared.Table.{Table}
 use Rattle.queue.specs.Order.{Entry}
+use Rattle.queue.specs.Layout.{empty-queue}
+use Rattle.queue.specs.Layout.Laws.{empty-has-none}
+use Rattle.queue.specs.declared.Queue.{Queue}
 use Rattle.planner.specs.Content.{Content}
 use Rattle.planner.specs.Sound.{ContentSound, Sound}
-use Rattle.planner.specs.Open.{not-in, late, open-refusals, opened, IsFresh, IsOpened}
+use Rattle.planner.specs.Open.{not-in, late, open-refusals, opened, no-streams, IsFresh, IsOpened}
 use Rattle.planner.specs.declared.Planner.{Planner}
 use Rattle.planner.specs.declared.Changed.{Changed}
 
@@ -26,18 +28,23 @@ opened-sound b f g t slots frame gap last =
       start-rule = λ u after. omega arith;
     }
 
+-- the empty queue is all that a planner with these numbers and no stream wants
+pub with-empty-queue : (b f g t : ℕ) (q : Queue) → q ≡ empty-queue → IsFresh b f g t (record { slots = b; frame = f; gap = g; last = t; table = no-streams; queue = q })
+with-empty-queue b f g t q is = record { whole = rw is; holds = refl }
+
 -- 01: "A successful open gives a sound planner."
 pub fresh-is-sound : (b f g t : ℕ) → (1 ≤ b) × (b ≤ 64) → (1 ≤ f) × (f ≤ 5040) → (1 ≤ g) × (g ≤ 255) → t ≤ 1_000_000_000 → (p : Planner) → IsFresh b f g t p → Sound p
-fresh-is-sound b f g t slots frame gap last p fresh =
-    record {
-      count = omega (arith, ap (λ (t : Table). t .count) (fresh .table));
-      content-sound = subst ContentSound (sym (fresh .holds)) (opened-sound b f g t slots frame gap last);
-      queue-sound = fresh .queue .sound;
+fresh-is-sound b f g t slots frame gap last p is =
+    subst⁻¹ Sound (is .whole)
+    (record {
+      count = omega arith;
+      content-sound = opened-sound b f g t slots frame gap last;
+      queue-sound = empty-has-none .sound;
       files = λ e. (
-        λ m. absurd (not-mem-nil (subst (λ (es : List Entry). List·Mem e es) (fresh .queue .content) m)),
-        λ some. ∥∥₁-elim some List·Mem-prop (λ w. absurd (not-mem-nil (subst (λ (h : Content). List·Mem (w .0) (h .table)) (fresh .holds) (w .1)))),
+        λ m. absurd (not-mem-nil (subst (λ (es : List Entry). List·Mem e es) (empty-has-none .content) m)),
+        λ some. ∥∥₁-elim some List·Mem-prop (λ w. absurd (not-mem-nil (w .1))),
       );
-    }
+    })
 
 -- 01: "It is not sound", of the closed planner.
 pub closed-is-not-sound : (p : Planner) → IsFresh 0 0 0 0 p → Sound p → ⊥

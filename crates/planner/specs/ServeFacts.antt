@@ -2,7 +2,7 @@
 use mathlib.Core.Path.{_≡_, refl, sym, ap, subst, subst⁻¹, _∙_}
 use mathlib.Core.Logic.{Or·elim, if-pos, if-neg, by-cases, ∥∥₁-elim}
 use mathlib.Core.HLevel.{×-prop, ¬-prop, ⊥-prop}
-use mathlib.Core.List.{List, [], _∷_, _++_, List·Mem, List·Mem-prop, List·Nodup, Pairwise, Pairwise·of-map, Pairwise·map, Pairwise·filter, pairwise-append, Perm·pairwise, Perm·symm, nodup-cons, nodup-append, map, map-map, map-id, map-congr-left, mem-map, mem-map-of-mem, mem-cast, mem-cons-self, mem-cons-of-mem, mem-append-left, not-mem-nil, eq-or-mem-of-mem-cons}
+use mathlib.Core.List.{List, [], _∷_, _++_, List·Mem, List·Mem-prop, List·Nodup, Pairwise, Pairwise·of-map, Pairwise·map, Pairwise·filter, pairwise-append, Perm·pairwise, Perm·symm, nodup-cons, map, map-map, map-id, map-congr-left, mem-map, mem-map-of-mem, mem-cast, mem-cons-self, mem-cons-of-mem, mem-append-left, not-mem-nil, eq-or-mem-of-mem-cons}
 use Prim.Native.Nat.{ℕ, zero, suc, _+_, _≤_, _<_}
 use native.Mathlib.Bridge.{le-prop}
 use native.Mathlib.Numerals.{add-one}
@@ -133,7 +133,7 @@ module _ (h : Content) (sound : ContentSound h) (s : ℕ) (lazy : IsStart h s) w
       (∥∥₁-elim (mem-map .0 (getD-mem (ids-at h s) j 0 within)) List·Mem-prop
       (λ w. mem-cast (sym (w .2)) (mem-map-of-mem (λ (x : Stream). x .number) (choice .inside (w .0) (w .1))))))
 
-  -- .. all due times lie in s + 1 to s + 480 ..
+  -- .. and all due times lie in s + 1 to s + 480
   pub served-bounds : (k : ℕ) (y : Stream) → List·Mem y (serve-all (take k (ids-at h s)) (h .table)) → ((s + 1 ≤ due y) × (due y ≤ s + 480)) × (y .period ≤ 240)
   unfolding first
   served-bounds k y m =
@@ -149,21 +149,6 @@ module _ (h : Content) (sound : ContentSound h) (s : ℕ) (lazy : IsStart h s) w
       ((omega arith, omega (arith, r .period, r .deadline, rides)), r .period .1))
       (λ not-here. ((omega arith, omega (arith, r .period, r .deadline)), r .period .1)))
       y (subst (λ (l : List Stream). List·Mem y l) (first-served k) m)
-
-  -- .. and a stream that is not among them is as it was
-  pub not-yet-served : (k : ℕ) (y : Stream) → List·Mem y (serve-all (take k (ids-at h s)) (h .table)) → (List·Mem (y .number) (take k (ids-at h s)) → ⊥) → List·Mem y (h .table)
-  not-yet-served k y m unserved =
-      ∥∥₁-elim (mem-map .0 (subst (λ (l : List Stream). List·Mem y l) (first-served k) m)) List·Mem-prop
-      (λ w. passed-elim (first k) (λ (z : Stream). z ≡ y → List·Mem y (h .table)) (w .0)
-      (λ here e. absurd (unserved (subst⁻¹ (λ (ids : List ℕ). List·Mem (y .number) ids) (first-ids k) (mem-cast (sym (ap (λ (z : Stream). z .number) e)) here))))
-      (λ not-here e. mem-cast (sym e) (w .1)) (w .2))
-
-  -- so the stream of slot k is as it was when its turn comes
-  pub turn-unserved : (k : ℕ) → k < length (ids-at h s) → (x : Stream) → List·Mem x (serve-all (take k (ids-at h s)) (h .table)) → x .number ≡ getD (ids-at h s) k 0 → List·Mem x (h .table)
-  turn-unserved k within x m turn =
-      let distinct = pairwise-take (λ a b. ¬-prop) (suc k) (ids-at h s) (slots-differ (h .slots) s (h .table) table) in
-      let apart = nodup-append {l₁ = take k (ids-at h s)} {l₂ = getD (ids-at h s) k 0 ∷ []} .0 (subst List·Nodup (take-suc (ids-at h s) k 0 within) distinct) .2 in
-      not-yet-served k x m (λ there. apart (x .number) there (mem-cast turn mem-cons-self))
 
   module _ (by-last : s ≤ 1_000_000_000) (q : Queue) (queue-sound : Layout.Sound q) (k : ℕ) (within : k < length (ids-at h s))
       (files : Files (entries q) (serve-all (take k (ids-at h s)) (h .table))) (x : Stream) (held : List·Mem x (serve-all (take k (ids-at h s)) (h .table)))

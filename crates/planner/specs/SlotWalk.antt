@@ -3,7 +3,7 @@ use mathlib.Core.Path.{_≡_, refl, sym, ap, subst, subst⁻¹, _∙_}
 use mathlib.Core.Logic.{Dec·and, if-pos, if-neg, ∥∥₁-elim}
 use mathlib.Core.List.{List, [], _∷_, _++_, List·Mem, List·Mem-prop, Pairwise·map, Pairwise·filter, Perm·mem-iff, map, filter, map-map, map-append, filter-append, append-nil, mem-map, mem-map-of-mem, mem-filter, decidableBEx}
 use mathlib.Mathlib.Data.List.Nodup.{inj-on-of-nodup-map}
-use Prim.Native.Nat.{ℕ, zero, suc, _+_, _≤_, _<_}
+use Prim.Native.Nat.{ℕ, zero, suc, _≤_, _<_}
 use native.Mathlib.Decide.{decLe, ℕ-discrete}
 use native.Mathlib.Omega.{arith}
 use lib.ListN.{length, take, drop, getD, take-append-drop}

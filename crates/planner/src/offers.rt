@@ -8,7 +8,6 @@ ghost use Rattle.planner.specs.Calls.{offer-refusals, rule-refusals, add
 ghost use Rattle.planner.specs.Inner.{CanAdd, CanTest};
 use super::Planner;
 use super::soundness::sound_start;
-use queue::Queue;
 use table::Stream;
 use table::Table;
 

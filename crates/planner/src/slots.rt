@@ -8,9 +8,9 @@ ghost use Rattle.planner.specs.Calls.{IsSoundWith};
 ghost use Rattle.planner.specs.Round.{rounded};
 ghost use Rattle.planner.specs.Inner.{CanChoose, CanServeAll, IsChosen, AreFound};
 use super::Planner;
+use basics::wide;
 use queue::Queue;
 use queue::move_at_sound;
-use table::Stream;
 use table::Table;
 
 // The ids chosen for a round, in the first n places, and beside each its stream's row in the table and its place in the queue.
@@ -31,12 +31,6 @@ pub fn write_ids_in_range(buffer: &mut [u16], ids: [u16; 64], n: usize)
         buffer[k] = ids[k];
         k += 1;
     }
-}
-
-fn wide(id: u16) -> u32
-    ensures { λ r. ⌜ r ≡ id ⌝ }
-{
-    id as u32
 }
 
 // The slots of a round at the start: entries are met in the queue's order, until the slots are full or all have been met.
@@ -64,7 +58,7 @@ pub fn choose_sound(p: Planner, start: u32) -> Chosen
         }
         let place = order[i];
         let id = queue.ids[place];
-        let row = basics::place_among(&ids, wide(id));
+        let row = basics::place_among_rising(&ids, wide(id));
         let stream = streams[row];
         if stream.release <= start {
             chosen.ids[n] = id;

@@ -1,12 +1,10 @@
 // Whether a planner is sound, and its next start if it is.
-ghost use mathlib.Core.Path.{_≡_};
 ghost use Rattle.basics.specs.Decides.{Decides};
 ghost use Rattle.planner.specs.Inner.{CanCompare, IsFiled, IsSoundStart};
 use super::Planner;
 use super::open_refusal;
 use queue::Queue;
 use table::Column;
-use table::Stream;
 use table::Table;
 
 // Whether the queue is sound and files exactly the streams of the table. Ids are looked up by halving: the table has them in ascending order.

@@ -1,13 +1,13 @@
 -- What the inner functions of the crate promise one another.
 use mathlib.Core.Path.{_≡_}
-use Prim.Native.Nat.{ℕ, _+_, _%_, _≤_, _<_}
+use Prim.Native.Nat.{ℕ, _+_, _≤_, _<_}
 use mathlib.Core.List.{List}
 use lib.ListN.{length, getD, set}
 use Rattle.basics.specs.Places.{Rises}
 use Rattle.queue.specs.Order.{Entry, Before}
 use Rattle.queue.specs.Entries.{Filed, InBounds}
 use Rattle.queue.specs.Calls.{inserted, moved, HasEntries}
-use Rattle.queue.specs.Layout.{id-at, key-at, prev-at, next-at, entry-at, Holds, IsNode, bucket-of, low, high, entries, Sound}
+use Rattle.queue.specs.Layout.{id-at, key-at, prev-at, next-at, entry-at, Holds, IsNode, bucket-of-key, bucket-of, low, high, entries, Sound}
 use Rattle.queue.specs.declared.Queue.{Queue}
 
 -- The arrays are as long as their types say.
@@ -54,7 +54,7 @@ taken-out q x =
 -- n is the node before which an id goes in the bucket of a key: ids before it are smaller, ids from it on larger.
 pub record IsPosition (q : Queue) (key id n : ℕ) : Type 0 where
   pub node : IsNode (id-at q) n
-  pub bucket : bucket-of (key-at q) n ≡ key % 480
+  pub bucket : bucket-of (key-at q) n ≡ bucket-of-key key
   pub above : low (id-at q) (prev-at q n) < id
   pub below : id < high (id-at q) n
 
@@ -116,7 +116,7 @@ pub record IsFirstAfter (q : Queue) (pair : Entry) (x : ℕ) : Type 0 where
 -- A node in the bucket of a key that some entry has.
 pub record StandsAt (q : Queue) (key n : ℕ) : Type 0 where
   pub node : IsNode (id-at q) n
-  pub in-bucket : bucket-of (key-at q) n ≡ key % 480
+  pub in-bucket : bucket-of (key-at q) n ≡ bucket-of-key key
   pub held : ∥ ((j : ℕ) × Holds q j × (key-at q j ≡ key)) ∥₁
 
 -- The pair that a node stands for: an entry's own, or one before all entries of the bucket.

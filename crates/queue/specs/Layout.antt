@@ -20,10 +20,10 @@ pub mod InOrder
 pub mod Laws
 use mathlib.Core.Path.{_≡_}
 use mathlib.Core.Logic.{_⊎_, ite}
-use mathlib.Core.List.{List, []}
+use mathlib.Core.List.{List, [], _∷_, _++_}
 use Prim.Native.Nat.{ℕ, zero, suc, _+_, _-_, _%_, _≤_, _<_}
 use native.Mathlib.Decide.{decLe, decLt}
-use lib.ListN.{getD}
+use lib.ListN.{getD, replicate}
 use Rattle.queue.specs.Order.{Entry}
 use Rattle.queue.specs.Entries.{put}
 use Rattle.queue.specs.declared.Queue.{Queue}
@@ -31,6 +31,19 @@ use Rattle.queue.specs.declared.Queue.{Queue}
 -- A queue of these ids, keys and links.
 abbrev pub queue-of : (ids keys next prev : List ℕ) → Queue
 queue-of ids keys next prev = record { ids = ids; keys = keys; next = next; prev = prev }
+
+-- The n numbers from x on.
+pub numbers-from : ℕ → ℕ → List ℕ
+numbers-from x zero = []
+numbers-from x (suc n) = x ∷ numbers-from (suc x) n
+
+-- The links of an empty queue: 0 at its places, and each of its 480 heads, nodes 64 on, its own neighbour.
+pub lone-heads : List ℕ
+lone-heads = replicate 64 0 ++ numbers-from 64 480
+
+-- The empty queue, one value: id 0 and key 0 at every place, and no link from a head to another node.
+pub empty-queue : Queue
+empty-queue = queue-of (replicate 64 0) (replicate 64 0) lone-heads lone-heads
 
 -- The id and the key at a place, and the links of a node.
 abbrev pub id-at : Queue → ℕ → ℕ
@@ -65,9 +78,17 @@ entries q = collected (id-at q) (key-at q) 64
 abbrev pub IsNode : (ids : ℕ → ℕ) → ℕ → Type 0
 IsNode ids x = ((x < 64) × (1 ≤ ids x)) ⊎ ((64 ≤ x) × (x < 544))
 
--- The bucket of a node: an entry's key modulo 480, a head's own.
+-- The bucket of a key: there are 480, in a circle.
+abbrev pub bucket-of-key : ℕ → ℕ
+bucket-of-key key = key % 480
+
+-- The bucket after a bucket, round the circle.
+abbrev pub bucket-after : ℕ → ℕ
+bucket-after bucket = (bucket + 1) % 480
+
+-- The bucket of a node: that of an entry's key, a head's own.
 pub bucket-of : (keys : ℕ → ℕ) → ℕ → ℕ
-bucket-of keys x = ite (decLt x 64) (keys x % 480) (x - 64)
+bucket-of keys x = ite (decLt x 64) (bucket-of-key (keys x)) (x - 64)
 
 -- Ids rise along a list from its head, which counts as 0 where the list leaves it and as 32,768 where the list comes back to it.
 pub low : (ids : ℕ → ℕ) → ℕ → ℕ

@@ -6,9 +6,9 @@ ghost use Rattle.queue.specs.Layout.Filing.{PlacesFile};
 ghost use Rattle.queue.specs.Layout.SoundnessFacts.{at};
 ghost use Rattle.queue.specs.Inner.{CanFile, IsPair};
 use super::Queue;
-use super::links::wide;
 use super::soundness::all_linked;
-use basics::place_among;
+use basics::place_among_rising;
+use basics::wide;
 
 // Which of the first `count` pairs this is, or 64 where it is none of them.
 fn pair_in_range<'a>(
@@ -21,7 +21,7 @@ fn pair_in_range<'a>(
     requires { ⌜ CanFile (now ids) (now keys) count ⌝ }
     ensures { λ r. ⌜ IsPair (now (ids .entry)) (now (keys .entry)) count id key r ⌝ }
 {
-    let i = place_among(ids, id);
+    let i = place_among_rising(ids, id);
     if count <= i {
         return 64;
     }

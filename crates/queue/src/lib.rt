@@ -1,11 +1,10 @@
 // The deadline queue: ids filed under keys, in 480 circular buckets by key modulo 480, each a doubly linked list ordered by id.
 // Every call here tests the queue it is handed. A layer that knows its queue to be sound calls the forms whose names end in _sound.
 ghost use mathlib.Core.Path.{_≡_};
-ghost use mathlib.Core.List.{[]};
 ghost use Rattle.basics.specs.Refusals.{answer-of};
 ghost use Rattle.queue.specs.Entries.{without};
-ghost use Rattle.queue.specs.Layout.{entries};
-ghost use Rattle.queue.specs.Calls.{insert-refusals, delete-refusals, move-refusals, inserted, moved, HasEntries, IsChange, least-of, next-of};
+ghost use Rattle.queue.specs.Layout.{entries, empty-queue};
+ghost use Rattle.queue.specs.Calls.{insert-refusals, delete-refusals, move-refusals, inserted, moved, IsChange, least-of, next-of};
 pub use filing::is_sound_filing_in_range;
 use links::place_of;
 pub use order::places_in_order_sound;
@@ -48,9 +47,9 @@ pub struct Found {
     pub id: u32,
 }
 
-// A queue with nothing filed: every bucket's head is its own neighbour.
+// The queue with nothing filed: zeros at every place, and every bucket's head its own neighbour.
 pub fn empty() -> Queue
-    ensures { λ r. ⌜ HasEntries r [] ⌝ }
+    ensures { λ r. ⌜ r ≡ empty-queue ⌝ }
 {
     let mut links = [0u16; 544];
     let mut x: usize = 64;

@@ -1,15 +1,10 @@
 // Places and links: finding a place, and putting an entry between two nodes or taking it out.
 ghost use mathlib.Core.Path.{_≡_};
-ghost use Prim.Native.Nat.{_+_, _%_, _<_, _≤_};
+ghost use Prim.Native.Nat.{_+_, _<_};
 ghost use lib.ListN.{getD};
-ghost use Rattle.queue.specs.Layout.{queue-of, Sound};
+ghost use Rattle.queue.specs.Layout.{queue-of, bucket-of-key, Sound};
 ghost use Rattle.queue.specs.Inner.{IsPlaceOf, CanPut, put-before, CanTake, taken-out, IsPosition, IsNew};
-
-pub fn wide(x: u16) -> u32
-    ensures { λ r. ⌜ r ≡ x ⌝ }
-{
-    x as u32
-}
+use basics::wide;
 
 // The place of an id, or 64 where no place has it; of id 0, the first free place.
 pub fn place_of(ids: &[u16; 64], id: u32) -> usize
@@ -25,11 +20,18 @@ pub fn place_of(ids: &[u16; 64], id: u32) -> usize
     64
 }
 
+// The bucket of a key.
+pub fn bucket_of_key(key: u32) -> usize
+    ensures { λ r. ⌜ r ≡ bucket-of-key key ⌝ }
+{
+    (key % 480) as usize
+}
+
 // The head of a key's bucket.
 pub fn head_of(key: u32) -> usize
-    ensures { λ r. ⌜ r ≡ 64 + key % 480 ⌝ }
+    ensures { λ r. ⌜ r ≡ 64 + bucket-of-key key ⌝ }
 {
-    64 + (key % 480) as usize
+    64 + bucket_of_key(key)
 }
 
 // The entry at a free place x, put before the node n.

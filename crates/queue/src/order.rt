@@ -4,11 +4,11 @@ ghost use lib.ListN.{length};
 ghost use Rattle.queue.specs.Layout.{entries, Sound};
 ghost use Rattle.queue.specs.Inner.{IsFollowing, IsInOrder};
 use super::Queue;
+use super::links::bucket_of_key;
 use super::links::head_of;
 use super::links::node_at;
 use super::search::bucket_after;
 use super::soundness::least_key;
-use super::soundness::residue;
 
 // The place of the entry that follows a node in the bucket of a key, along its list or in a later bucket; 64 if none follows.
 fn following_in_range<'a>(keys: &'a [u32; 64], next: &'a [u16; 544], key: u32, n: usize) -> usize
@@ -19,7 +19,7 @@ fn following_in_range<'a>(keys: &'a [u32; 64], next: &'a [u16; 544], key: u32, n
     if on < 64 {
         return on;
     }
-    let mut bucket = bucket_after(residue(key));
+    let mut bucket = bucket_after(bucket_of_key(key));
     let mut left: usize = 479;
     while 0 < left {
         let first = node_at(next, 64 + bucket);

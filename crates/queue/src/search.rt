@@ -1,17 +1,17 @@
 // The search for the first entry after a pair of key and id.
 ghost use mathlib.Core.Path.{_≡_};
-ghost use Prim.Native.Nat.{_+_, _%_, _<_, _≤_};
-ghost use lib.ListN.{getD};
+ghost use Prim.Native.Nat.{_<_};
 ghost use Rattle.basics.specs.Decides.{Decides};
 ghost use Rattle.queue.specs.Order.{Before};
-ghost use Rattle.queue.specs.Layout.{Sound};
+ghost use Rattle.queue.specs.Layout.{bucket-after, Sound};
 ghost use Rattle.queue.specs.Calls.{least-of, next-of};
 ghost use Rattle.queue.specs.Inner.{SearchFrom, IsFirstAfter};
 use super::Found;
 use super::Queue;
+use super::links::bucket_of_key;
 use super::links::node_at;
-use super::links::wide;
 use super::soundness::least_key;
+use basics::wide;
 
 // Whether the pair of key and id comes after another.
 fn is_after(key: u32, id: u32, than_key: u32, than_id: u32) -> bool
@@ -29,7 +29,7 @@ fn is_after(key: u32, id: u32, than_key: u32, than_id: u32) -> bool
 // The bucket after a bucket, round the circle.
 pub fn bucket_after(bucket: usize) -> usize
     requires { ⌜ bucket < 480 ⌝ }
-    ensures { λ r. ⌜ r ≡ (bucket + 1) % 480 ⌝ }
+    ensures { λ r. ⌜ r ≡ bucket-after bucket ⌝ }
 {
     if bucket == 479 {
         return 0;
@@ -43,7 +43,7 @@ fn search_sound(q: Queue, from: u32, key: u32, id: u32) -> usize
     ensures { λ r. ⌜ IsFirstAfter q (record { key = key; id = id }) r ⌝ }
 {
     let mut found: usize = 64;
-    let mut bucket = (from % 480) as usize;
+    let mut bucket = bucket_of_key(from);
     let mut left: usize = 480;
     'search: while 0 < left {
         let mut n = node_at(&q.next, 64 + bucket);

@@ -1,6 +1,6 @@
 // The changes behind the tests: each relies on a sound queue and on what the refusals would have found.
 ghost use mathlib.Core.Path.{_≡_};
-ghost use Prim.Native.Nat.{_+_, _<_, _≤_};
+ghost use Prim.Native.Nat.{_+_, _<_};
 ghost use Rattle.basics.specs.Decides.{Decides};
 ghost use Rattle.queue.specs.Entries.{without};
 ghost use Rattle.queue.specs.Layout.{queue-of, entries};
@@ -11,9 +11,11 @@ use super::links::place_of;
 use super::links::position_sound;
 use super::links::put_before;
 use super::links::take_out;
-use super::links::wide as id_of;
+use super::soundness::KEY_LIMIT;
+use basics::wide;
 
-fn wide(key: u32) -> u64
+// A key in 64 bits, as the sum of two is.
+fn wide_key(key: u32) -> u64
     ensures { λ r. ⌜ r ≡ key ⌝ }
 {
     key as u64
@@ -37,7 +39,7 @@ fn place_fits<'a>(ids: &'a [u16; 64], keys: &'a [u32; 64], out: usize, key: u64,
     if ids[i] == 0 {
         return true;
     }
-    let there = wide(keys[i]);
+    let there = wide_key(keys[i]);
     if there < key {
         if 479 < key - there {
             return false;
@@ -54,7 +56,7 @@ fn place_fits<'a>(ids: &'a [u16; 64], keys: &'a [u32; 64], out: usize, key: u64,
 pub fn key_fits<'a>(ids: &'a [u16; 64], keys: &'a [u32; 64], out: usize, key: u64) -> bool
     ensures { λ r. ⌜ Decides r (KeyFits (now (ids .entry)) (now (keys .entry)) out key) ⌝ }
 {
-    if 2000000000 < key {
+    if (KEY_LIMIT as u64) < key {
         return false;
     }
     let mut i = 0;
@@ -130,7 +132,7 @@ pub fn move_at_sound<'a>(
     let id = ids[x];
     let key = keys[x] + amount;
     take_out(ids, keys, next, prev, x);
-    let n = position_sound(ids, keys, next, prev, key, id_of(id));
+    let n = position_sound(ids, keys, next, prev, key, wide(id));
     put_before(ids, keys, next, prev, x, id, key, n);
 }
 

@@ -1,8 +1,9 @@
 // Whether a queue is sound. Every loop runs over places or nodes and none along links, so each test ends on any value whatever.
 use crate::Queue;
+use crate::links::bucket_of_key;
 use crate::links::node_at;
 ghost use mathlib.Core.Path.{_≡_};
-ghost use Prim.Native.Nat.{_%_, _≤_, _<_};
+ghost use Prim.Native.Nat.{_≤_, _<_};
 ghost use Rattle.basics.specs.Decides.{Decides};
 ghost use Rattle.queue.specs.Layout.{IsNode, bucket-of, low, high, Linked, AllLinked, Sound};
 ghost use Rattle.queue.specs.Layout.LinkFacts.{LinkedBetween};
@@ -10,13 +11,7 @@ ghost use Rattle.queue.specs.Layout.NewIds.{IsSame};
 ghost use Rattle.queue.specs.Layout.SoundnessFacts.{at, Below, KeyWithin, KeysWithin, New, IsLesser, IsLeast, ShortSpan, PlacesSound, NextRight, PrevRight, Alone};
 
 // The largest key that may be filed.
-const KEY_LIMIT: u32 = 2_000_000_000;
-
-pub fn residue(key: u32) -> usize
-    ensures { λ r. ⌜ r ≡ key % 480 ⌝ }
-{
-    (key % 480) as usize
-}
+pub const KEY_LIMIT: u32 = 2_000_000_000;
 
 // Node x is a place that holds an entry, or a head.
 fn is_node(ids: &[u16; 64], x: usize) -> bool
@@ -32,7 +27,7 @@ fn bucket(keys: &[u32; 64], x: usize) -> usize
     ensures { λ r. ⌜ r ≡ bucket-of (at (now (keys .entry))) x ⌝ }
 {
     if x < 64 {
-        return residue(keys[x]);
+        return bucket_of_key(keys[x]);
     }
     x - 64
 }

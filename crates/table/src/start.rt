@@ -3,6 +3,7 @@ use super::Column;
 use super::Table;
 use super::lengths::advance;
 use super::lengths::narrow_column_in_range;
+use basics::wide;
 ghost use mathlib.Core.Path.{_≡_};
 ghost use Prim.Native.Nat.{_≤_, min};
 ghost use Rattle.rules.specs.Demand.{ceil};
@@ -17,12 +18,6 @@ fn lesser(x: u32, y: u32) -> u32
         return y;
     }
     x
-}
-
-fn wide(x: u16) -> u32
-    ensures { λ r. ⌜ r ≡ x ⌝ }
-{
-    x as u32
 }
 
 // The least of the first values.

@@ -1,9 +1,10 @@
--- `queue::empty` meets its contract: each head from 64 to x is its own neighbour, and no place holds an id.
+-- `queue::empty` meets its contract: each head from 64 to x is its own neighbour, and the places' links are 0 as they were.
 use mathlib.Core.Path.{refl}
 use Prim.Native.Nat.{_-_}
 use native.Mathlib.Nat.{lt-irrefl}
 use native.Mathlib.Omega.{arith}
-use Rattle.queue.specs.Layout.Heads.{HeadsAlone, one-head-more, no-entries}
+use lib.ListN.{getD-replicate}
+use Rattle.queue.specs.Layout.Heads.{HeadsAlone, one-head-more, all-alone}
 use Rattle.queue.proofs.empty.Statement.{statement}
 use Rattle.queue.proofs.empty.Tie as tie
 
@@ -14,7 +15,7 @@ abbrev μ-loop : tie.MeasureT-loop
 μ-loop links₀ x₀ links x = 544 - x
 
 loop-holds : tie.Need-loop-holds Inv-loop μ-loop
-loop-holds c = record { from = omega arith; within = omega arith; size = refl; alone = λ j low high. absurd (lt-irrefl 64 (omega (arith, low, high))) }
+loop-holds c = record { from = omega arith; within = omega arith; size = refl; free = λ i below. getD-replicate 544 i 0 0 (omega arith); alone = λ j low high. absurd (lt-irrefl 64 (omega (arith, low, high))) }
 
 cast-links : tie.Need-cast-links Inv-loop μ-loop
 cast-links c = omega (arith, c .before .loop .inv .within, c .before .loop .inv .from)
@@ -35,7 +36,7 @@ loop-again : tie.Need-loop-again Inv-loop μ-loop
 loop-again c = one-head-more (c .before .loop .links) (c .before .loop .x) (c .loop-test .taken) (c .before .loop .inv)
 
 returns : tie.Need-returns Inv-loop μ-loop
-returns c = no-entries (c .before .loop .links) (c .before .loop .x) (c .loop-test .left) (c .before .loop .inv)
+returns c = all-alone (c .before .loop .links) (c .before .loop .x) (c .loop-test .left) (c .before .loop .inv)
 
 pub empty-spec : {M : Type 1} → statement M
 empty-spec =

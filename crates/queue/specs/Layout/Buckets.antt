@@ -1,12 +1,12 @@
 -- The search over buckets and lists: what is known at each bucket, at each node, and where it is left.
 use mathlib.Core.Path.{_≡_, refl, sym, ap, subst⁻¹, _∙_}
 use mathlib.Core.Logic.{_⊎_, inl, inr}
-use Prim.Native.Nat.{ℕ, _+_, _-_, _%_, _≤_, _<_}
+use Prim.Native.Nat.{ℕ, _+_, _-_, _≤_, _<_}
 use native.Mathlib.Nat.{lt-irrefl, mod-lt}
 use native.Mathlib.Decide.{decLe, ℕ-discrete}
 use native.Mathlib.Omega.{arith}
 use Rattle.queue.specs.Order.{Entry, Before}
-use Rattle.queue.specs.Layout.{id-at, key-at, next-at, prev-at, entry-at, Holds, IsNode, bucket-of, low, high, Sound}
+use Rattle.queue.specs.Layout.{id-at, key-at, next-at, prev-at, entry-at, Holds, IsNode, bucket-of-key, bucket-after, bucket-of, low, high, Sound}
 use Rattle.queue.specs.Layout.LinkFacts.{low-place, low-head, high-place, high-head, bucket-place, bucket-head, none-between}
 use Rattle.queue.specs.Layout.SoundFacts.{sound-once}
 use Rattle.queue.specs.Inner.{SearchFrom, IsFirstAfter}
@@ -18,7 +18,7 @@ use Rattle.queue.specs.Layout.Walk.{node-place}
 pub record AtBucket (q : Queue) (from : ℕ) (pair : Entry) (found bucket left : ℕ) : Type 0 where
   pub unfound : found ≡ 64
   pub within : left ≤ 480
-  pub is-bucket : bucket ≡ (from + (480 - left)) % 480
+  pub is-bucket : bucket ≡ bucket-of-key (from + (480 - left))
   pub ahead : (i : ℕ) → Holds q i → Before pair (entry-at q i) → from + (480 - left) ≤ key-at q i
 
 -- at a node of the bucket: no entry after the pair lies before it
@@ -26,15 +26,15 @@ pub record AtNode (q : Queue) (pair : Entry) (found bucket n : ℕ) : Type 0 whe
   pub unfound : found ≡ 64
   pub node : IsNode (id-at q) n
   pub in-bucket : bucket-of (key-at q) n ≡ bucket
-  pub ahead : (i : ℕ) → Holds q i → Before pair (entry-at q i) → key-at q i % 480 ≡ bucket → high (id-at q) n ≤ id-at q i
+  pub ahead : (i : ℕ) → Holds q i → Before pair (entry-at q i) → bucket-of-key (key-at q i) ≡ bucket → high (id-at q) n ≤ id-at q i
 
 module _ (q : Queue) (sound : Sound q) (from : ℕ) (pair : Entry) (start : SearchFrom q from pair) where
-  pub at-first-bucket : (bucket : ℕ) → bucket ≡ from % 480 → AtBucket q from pair 64 bucket 480
+  pub at-first-bucket : (bucket : ℕ) → bucket ≡ bucket-of-key from → AtBucket q from pair 64 bucket 480
   at-first-bucket bucket is =
       record {
         unfound = refl;
         within = omega arith;
-        is-bucket = is ∙ ap (λ (n : ℕ). n % 480) (omega arith);
+        is-bucket = is ∙ ap bucket-of-key (omega arith);
         ahead = λ i holds after. omega (arith, start i holds after .0);
       }
 
@@ -42,7 +42,7 @@ module _ (q : Queue) (sound : Sound q) (from : ℕ) (pair : Entry) (start : Sear
   bucket-below found bucket left at = rw (at .is-bucket) (mod-lt (from + (480 - left)) {m = 480} (omega arith))
 
   -- no entry of the bucket lies between a node and the next, so what is ahead of the node and not the node is ahead of the next
-  pub ahead-of-next : (x i : ℕ) → IsNode (id-at q) x → Holds q i → bucket-of (key-at q) x ≡ key-at q i % 480 → low (id-at q) x < id-at q i → high (id-at q) (next-at q x) ≤ id-at q i
+  pub ahead-of-next : (x i : ℕ) → IsNode (id-at q) x → Holds q i → bucket-of (key-at q) x ≡ bucket-of-key (key-at q i) → low (id-at q) x < id-at q i → high (id-at q) (next-at q x) ≤ id-at q i
   ahead-of-next x i node holds bucket above = go (decLe (high (id-at q) (next-at q x)) (id-at q i))
     where
       go : Dec (high (id-at q) (next-at q x) ≤ id-at q i) → high (id-at q) (next-at q x) ≤ id-at q i
@@ -88,16 +88,16 @@ module _ (q : Queue) (sound : Sound q) (from : ℕ) (pair : Entry) (start : Sear
 
   -- a bucket whose list is passed is passed
   pub at-next-bucket : (found₀ found bucket left n bucket′ left′ : ℕ) → AtBucket q from pair found₀ bucket left → AtNode q pair found bucket n → 64 ≤ n → 0 < left
-      → bucket′ ≡ (bucket + 1) % 480 → left′ ≡ left - 1 → AtBucket q from pair found bucket′ left′
+      → bucket′ ≡ bucket-after bucket → left′ ≡ left - 1 → AtBucket q from pair found bucket′ left′
   at-next-bucket found₀ found bucket left n bucket′ left′ at node head some is less =
       record {
         unfound = node .unfound;
         within = omega (arith, at .within);
         is-bucket = omega (arith, is, at .is-bucket, less, at .within);
-        ahead = λ i holds after. go i holds after (ℕ-discrete (key-at q i % 480) bucket);
+        ahead = λ i holds after. go i holds after (ℕ-discrete (bucket-of-key (key-at q i)) bucket);
       }
     where
-      go : (i : ℕ) → Holds q i → Before pair (entry-at q i) → Dec (key-at q i % 480 ≡ bucket) → from + (480 - left′) ≤ key-at q i
+      go : (i : ℕ) → Holds q i → Before pair (entry-at q i) → Dec (bucket-of-key (key-at q i) ≡ bucket) → from + (480 - left′) ≤ key-at q i
       go i holds after (yes same) =
           absurd (lt-irrefl 0 (omega (arith, node .ahead i holds after same, high-head (id-at q) n head, sound .ids-in-range i holds)))
       go i holds after (no other) = omega (arith, at .ahead i holds after, at .is-bucket, at .within, less)
@@ -106,7 +106,7 @@ module _ (q : Queue) (sound : Sound q) (from : ℕ) (pair : Entry) (start : Sear
   pub left-at-node : (found₀ found bucket left n : ℕ) → AtBucket q from pair found₀ bucket left → AtNode q pair found bucket n → n < 64 → Before pair (entry-at q n) → IsFirstAfter q pair n
   left-at-node found₀ found bucket left n at node inside after =
       let here = node-place q sound n (node .node) inside in
-      let in-bucket : key-at q n % 480 ≡ bucket = sym (bucket-place (key-at q) n inside) ∙ node .in-bucket in
+      let in-bucket : bucket-of-key (key-at q n) ≡ bucket = sym (bucket-place (key-at q) n inside) ∙ node .in-bucket in
       let its-key : key-at q n ≡ from + (480 - left) = omega (arith, in-bucket, at .is-bucket, at .ahead n here after, start n here after .1, at .within) in
       record {
         within = omega arith;
@@ -115,10 +115,10 @@ module _ (q : Queue) (sound : Sound q) (from : ℕ) (pair : Entry) (start : Sear
         none = λ e. absurd (lt-irrefl 64 (omega arith));
       }
     where
-      no-earlier : (i : ℕ) → Holds q i → Before pair (entry-at q i) → key-at q n ≡ from + (480 - left) → key-at q n % 480 ≡ bucket → Before (entry-at q i) (entry-at q n) → ⊥
+      no-earlier : (i : ℕ) → Holds q i → Before pair (entry-at q i) → key-at q n ≡ from + (480 - left) → bucket-of-key (key-at q n) ≡ bucket → Before (entry-at q i) (entry-at q n) → ⊥
       no-earlier i holds later its-key in-bucket (inl less) = omega (arith, at .ahead i holds later)
       no-earlier i holds later its-key in-bucket (inr w) =
-          omega (arith, w .1, node .ahead i holds later (ap (λ (k : ℕ). k % 480) (w .0) ∙ in-bucket), high-place (id-at q) n inside)
+          omega (arith, w .1, node .ahead i holds later (ap bucket-of-key (w .0) ∙ in-bucket), high-place (id-at q) n inside)
 
   -- with every bucket passed there is none
   pub left-with-none : (found bucket left : ℕ) → AtBucket q from pair found bucket left → left ≤ 0 → IsFirstAfter q pair found

@@ -2,12 +2,12 @@
 use mathlib.Core.Path.{_≡_, refl, sym, subst, _∙_}
 use mathlib.Core.Logic.{inl, inr, ∥∥₁-elim}
 use mathlib.Core.HLevel.{×-prop}
-use Prim.Native.Nat.{ℕ, _+_, _-_, _%_, _≤_, _<_}
+use Prim.Native.Nat.{ℕ, _+_, _-_, _≤_, _<_}
 use native.Mathlib.Bridge.{le-prop}
 use native.Mathlib.Nat.{lt-irrefl}
 use native.Mathlib.Omega.{arith}
 use Rattle.queue.specs.Order.{Entry, Before}
-use Rattle.queue.specs.Layout.{id-at, key-at, next-at, entry-at, Holds, low, Sound}
+use Rattle.queue.specs.Layout.{id-at, key-at, next-at, entry-at, Holds, low, Sound, bucket-of-key, bucket-after}
 use Rattle.queue.specs.Layout.LinkFacts.{high-place, bucket-place}
 use Rattle.queue.specs.Inner.{SearchFrom, IsFirstAfter, StandsAt, pair-at}
 use Rattle.queue.specs.Layout.Walk.{node-place}
@@ -32,13 +32,13 @@ module _ (q : Queue) (sound : Sound q) (key n : ℕ) (stands : StandsAt q key n)
   from-here i holds after = (not-before i after, near i holds .0)
 
   -- so the bucket has no other key
-  own-key : (i : ℕ) → Holds q i → key-at q i % 480 ≡ key % 480 → key-at q i ≡ key
+  own-key : (i : ℕ) → Holds q i → bucket-of-key (key-at q i) ≡ bucket-of-key key → key-at q i ≡ key
   own-key i holds same = let w = near i holds in omega (arith, same)
 
-  at-own-bucket : AtBucket q key pair 64 (key % 480) 480
-  at-own-bucket = at-first-bucket q sound key pair from-here (key % 480) refl
+  at-own-bucket : AtBucket q key pair 64 (bucket-of-key key) 480
+  at-own-bucket = at-first-bucket q sound key pair from-here (bucket-of-key key) refl
 
-  at-own-next : AtNode q pair 64 (key % 480) (next-at q n)
+  at-own-next : AtNode q pair 64 (bucket-of-key key) (next-at q n)
   at-own-next =
       let l = sound .links n (stands .node) in
       record {
@@ -61,20 +61,20 @@ module _ (q : Queue) (sound : Sound q) (key n : ℕ) (stands : StandsAt q key n)
           let l = sound .links n (stands .node) in
           let here = node-place q sound (next-at q n) (l .next-is-node) below in
           let same = own-key (next-at q n) here (sym (bucket-place (key-at q) (next-at q n) below) ∙ (l .next-in-bucket ∙ stands .in-bucket)) in
-          left-at-node q sound key pair from-here 64 64 (key % 480) 480 (next-at q n) at-own-bucket at-own-next below
+          left-at-node q sound key pair from-here 64 64 (bucket-of-key key) 480 (next-at q n) at-own-bucket at-own-next below
           (inr (sym same, omega (arith, l .in-order, high-place (id-at q) (next-at q n) below)))
 
   -- with the list at its end, the later buckets are searched
-  pub after-own : (x bucket own : ℕ) → x ≡ next-at q n → 64 ≤ x → own ≡ key % 480 → bucket ≡ (own + 1) % 480 → AtBucket q key pair 64 bucket 479
+  pub after-own : (x bucket own : ℕ) → x ≡ next-at q n → 64 ≤ x → own ≡ bucket-of-key key → bucket ≡ bucket-after own → AtBucket q key pair 64 bucket 479
   after-own x bucket own is end is-own is-bucket =
-      at-next-bucket q sound key pair from-here 64 64 (key % 480) 480 (next-at q n) bucket 479 at-own-bucket at-own-next (omega (arith, is, end)) (omega arith)
+      at-next-bucket q sound key pair from-here 64 64 (bucket-of-key key) 480 (next-at q n) bucket 479 at-own-bucket at-own-next (omega (arith, is, end)) (omega arith)
       (is-bucket ∙ omega (arith, is-own)) refl
 
   module _ (bucket left : ℕ) (at : AtBucket q key pair 64 bucket left) (some : 0 < left) (first : ℕ) (is : first ≡ next-at q (64 + bucket)) where
     at-first : AtNode q pair 64 bucket first
     at-first = at-first-node q sound key pair from-here 64 bucket first refl (bucket-below q sound key pair from-here 64 bucket left at) is
 
-    pub one-bucket-on : (bucket′ left′ : ℕ) → 64 ≤ first → bucket′ ≡ (bucket + 1) % 480 → left′ ≡ left - 1 → AtBucket q key pair 64 bucket′ left′
+    pub one-bucket-on : (bucket′ left′ : ℕ) → 64 ≤ first → bucket′ ≡ bucket-after bucket → left′ ≡ left - 1 → AtBucket q key pair 64 bucket′ left′
     one-bucket-on bucket′ left′ end = at-next-bucket q sound key pair from-here 64 64 bucket left first bucket′ left′ at at-first end some
 
     pub first-follows : first < 64 → key < key-at q first → IsFirstAfter q pair first
@@ -84,7 +84,7 @@ module _ (q : Queue) (sound : Sound q) (key n : ℕ) (stands : StandsAt q key n)
     pub come-round : left ≤ 479 → first < 64 → key-at q first ≤ key → IsFirstAfter q pair 64
     come-round began inside earlier =
         let here = node-place q sound first (at-first .node) inside in
-        let in-bucket : key-at q first % 480 ≡ bucket = sym (bucket-place (key-at q) first inside) ∙ at-first .in-bucket in
+        let in-bucket : bucket-of-key (key-at q first) ≡ bucket = sym (bucket-place (key-at q) first inside) ∙ at-first .in-bucket in
         let w = near first here in
         let its-key : key-at q first + left ≡ key = omega (arith, in-bucket, at .is-bucket, at .within, began, earlier, some) in
         record {

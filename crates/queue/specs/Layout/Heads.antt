@@ -1,24 +1,52 @@
--- A queue with nothing filed: its heads are their own neighbours.
-use mathlib.Core.Path.{_≡_, refl, ap, subst⁻¹, _∙_}
+-- A queue with nothing filed: its heads are their own neighbours. The loop that links them ends at the empty queue.
+use mathlib.Core.Path.{_≡_, refl, sym, ap, subst⁻¹, _∙_}
 use mathlib.Core.Logic.{inl, inr}
 use mathlib.Core.List.{List, []}
-use Prim.Native.Nat.{ℕ, zero, suc, _+_, _≤_, _<_}
+use Prim.Native.Nat.{ℕ, zero, suc, _+_, _-_, _≤_, _<_}
 use native.Mathlib.Nat.{lt-irrefl}
 use native.Mathlib.Decide.{decLt}
 use native.Mathlib.Omega.{arith}
-use lib.ListN.{length, getD, set, replicate, length-set, getD-replicate}
-use lib.Seq.{getD-set-same, getD-set-other}
-use Rattle.queue.specs.Layout.{id-at, key-at, next-at, prev-at, Holds, collected, entries, IsNode, bucket-of, low, high, Linked}
+use lib.ListN.{length, getD, set, replicate, length-set, getD-replicate, List·getD-append}
+use lib.Seq.{getD-set-same, getD-set-other, getD-append-add, ext-getD}
+use Rattle.queue.specs.Layout.{queue-of, numbers-from, lone-heads, empty-queue, id-at, key-at, next-at, prev-at, Holds, collected, entries, IsNode, bucket-of, low, high, Linked}
 use Rattle.queue.specs.Layout.LinkFacts.{low-head, high-head}
 use Rattle.queue.specs.Layout.Collected.{collected-none}
 use Rattle.queue.specs.Calls.{HasEntries}
 use Rattle.queue.specs.declared.Queue.{Queue}
 
--- the heads from 64 to x link to themselves
+numbers-from-size : (x n : ℕ) → length (numbers-from x n) ≡ n
+unfolding numbers-from
+numbers-from-size x zero = refl
+numbers-from-size x (suc n) = ap suc (numbers-from-size (suc x) n)
+
+numbers-from-at : (x n i : ℕ) → i < n → getD (numbers-from x n) i 0 ≡ x + i
+unfolding numbers-from
+numbers-from-at x zero i below = absurd (lt-irrefl 0 (omega arith))
+numbers-from-at x (suc n) zero below = omega arith
+numbers-from-at x (suc n) (suc i) below = numbers-from-at (suc x) n i (omega arith) ∙ omega arith
+
+-- what the links of the empty queue are, place by place and head by head
+lone-heads-size : length lone-heads ≡ 544
+unfolding lone-heads
+lone-heads-size = simp numbers-from-size
+
+lone-heads-free : (i : ℕ) → i < 64 → getD lone-heads i 0 ≡ 0
+unfolding lone-heads
+lone-heads-free i below = List·getD-append (replicate 64 0) (numbers-from 64 480) 0 i below ∙ getD-replicate 64 i 0 0 below
+
+pub lone-heads-alone : (j : ℕ) → 64 ≤ j → j < 544 → getD lone-heads j 0 ≡ j
+unfolding lone-heads
+lone-heads-alone j from below =
+    let zeros : List ℕ = replicate 64 0 in
+    let e : j ≡ 64 + (j - 64) = omega arith in
+    ap (λ (k : ℕ). getD lone-heads k 0) e ∙ (getD-append-add zeros (numbers-from 64 480) (j - 64) 0 ∙ (numbers-from-at 64 480 (j - 64) (omega arith) ∙ sym e))
+
+-- the heads from 64 to x link to themselves, and the places to 0
 pub record HeadsAlone (links : List ℕ) (x : ℕ) : Type 0 where
   pub from : 64 ≤ x
   pub within : x ≤ 544
   pub size : length links ≡ 544
+  pub free : (i : ℕ) → i < 64 → getD links i 0 ≡ 0
   pub alone : (j : ℕ) → 64 ≤ j → j < x → getD links j 0 ≡ j
 
 pub one-head-more : (links : List ℕ) (x : ℕ) → x < 544 → HeadsAlone links x → HeadsAlone (set links x x) (x + 1)
@@ -27,6 +55,7 @@ one-head-more links x below heads =
       from = omega (arith, heads .from);
       within = omega arith;
       size = length-set links x x ∙ heads .size;
+      free = λ i below. getD-set-other links x i x 0 (λ e. lt-irrefl x (omega (arith, heads .from))) ∙ heads .free i below;
       alone = λ j low high. go j low high (decLt j x);
     }
   where
@@ -35,6 +64,18 @@ one-head-more links x below heads =
     go j low high (no last) =
         let e : j ≡ x = omega arith in
         subst⁻¹ (λ (k : ℕ). getD (set links x x) k 0 ≡ k) e (getD-set-same links x x 0 (omega (arith, heads .size)))
+
+-- with all heads linked, the queue is the empty one
+pub all-alone : (links : List ℕ) (x : ℕ) → 544 ≤ x → HeadsAlone links x → queue-of (replicate 64 0) (replicate 64 0) links links ≡ empty-queue
+unfolding empty-queue
+all-alone links x all heads = ap (λ (ls : List ℕ). queue-of (replicate 64 0) (replicate 64 0) ls ls) (ext-getD 0 links lone-heads (heads .size ∙ sym lone-heads-size) each)
+  where
+    each : (j : ℕ) → j < length links → getD links j 0 ≡ getD lone-heads j 0
+    each j below = go (decLt j 64)
+      where
+        go : Dec (j < 64) → getD links j 0 ≡ getD lone-heads j 0
+        go (yes place) = heads .free j place ∙ sym (lone-heads-free j place)
+        go (no head) = heads .alone j (omega arith) (omega (arith, heads .size)) ∙ sym (lone-heads-alone j (omega arith) (omega (arith, heads .size)))
 
 -- ids all 0 leave nothing to collect
 none-collected : (ids keys : ℕ → ℕ) (n : ℕ) → ((i : ℕ) → i < n → ids i ≡ 0) → collected ids keys n ≡ []
@@ -61,7 +102,7 @@ module _ (q : Queue) (free : (i : ℕ) → i < 64 → id-at q i ≡ 0) (next-alo
         prev-returns = ap (next-at q) back ∙ on;
       }
 
-  alone-empty : HasEntries q []
+  pub alone-empty : HasEntries q []
   unfolding entries
   alone-empty =
       record {
@@ -75,8 +116,3 @@ module _ (q : Queue) (free : (i : ℕ) → i < 64 → id-at q i ≡ 0) (next-alo
             };
         content = none-collected (id-at q) (key-at q) 64 free;
       }
-
-pub no-entries : (links : List ℕ) (x : ℕ) → 544 ≤ x → HeadsAlone links x → HasEntries (record { ids = replicate 64 0; keys = replicate 64 0; next = links; prev = links }) []
-no-entries links x all heads =
-    alone-empty (record { ids = replicate 64 0; keys = replicate 64 0; next = links; prev = links }) (λ i below. getD-replicate 64 i 0 0 below)
-    (λ j low high. heads .alone j low (omega arith)) (λ j low high. heads .alone j low (omega arith))

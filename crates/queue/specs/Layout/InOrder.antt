@@ -1,8 +1,8 @@
 -- The walk over all entries in order: what has been met, and where it stands.
-use mathlib.Core.Path.{_≡_, sym, ap, subst, subst⁻¹, _∙_}
+use mathlib.Core.Path.{_≡_, sym, ap, subst⁻¹, _∙_}
 use mathlib.Core.Logic.{inl, inr, _⊎_, ∥∥₁-elim, ∥∥₁-map, if-neg}
 use mathlib.Core.List.{List, _∷_, List·Mem, pairwise-cons, filter-eq-self}
-use Prim.Native.Nat.{ℕ, zero, suc, _+_, _%_, _≤_, _<_}
+use Prim.Native.Nat.{ℕ, zero, suc, _+_, _≤_, _<_}
 use native.Mathlib.Nat.{lt-irrefl}
 use native.Mathlib.Decide.{decLt}
 use native.Mathlib.Omega.{arith}
@@ -12,7 +12,7 @@ use Rattle.basics.specs.Members.{getD-mem}
 use Rattle.queue.specs.Order.{Entry, Before, before}
 use Rattle.queue.specs.Entries.{after}
 use Rattle.queue.specs.EntryFacts.{InOrder, entry-path, before-asym, before-prop}
-use Rattle.queue.specs.Layout.{id-at, key-at, entry-at, Holds, entries, Sound}
+use Rattle.queue.specs.Layout.{id-at, key-at, entry-at, Holds, entries, Sound, bucket-of-key}
 use Rattle.queue.specs.Layout.LinkFacts.{low-place, low-head, bucket-place, bucket-head}
 use Rattle.queue.specs.Layout.Collected.{of-collected, collected-in-order, collected-length}
 use Rattle.queue.specs.Layout.Decide.{decide-sound}
@@ -61,7 +61,7 @@ module _ (q : Queue) (sound : Sound q) (count : ℕ) (some : count ≤ length (e
   in-room k below = omega (arith, some, entries-at-most)
 
   -- it begins at the head of the least key's bucket
-  pub none-met : (key n : ℕ) (places : List ℕ) → length places ≡ 64 → IsLeast (id-at q) (key-at q) 64 key → n ≡ 64 + key % 480 → Met q count 0 key n places
+  pub none-met : (key n : ℕ) (places : List ℕ) → length places ≡ 64 → IsLeast (id-at q) (key-at q) 64 key → n ≡ 64 + bucket-of-key key → Met q count 0 key n places
   unfolding after entries
   none-met key n places long least is =
       record {
@@ -125,7 +125,7 @@ module _ (q : Queue) (sound : Sound q) (count : ℕ) (some : count ≤ length (e
         record {
           within = omega (arith, is-j);
           met = λ i below. go i below (decLt i k);
-          stands = λ _. record { node = inl holds; in-bucket = bucket-place (key-at q) x found-place ∙ ap (λ (a : ℕ). a % 480) (sym is-key); held = ∣ (x, holds, sym is-key) ∣₁ };
+          stands = λ _. record { node = inl holds; in-bucket = bucket-place (key-at q) x found-place ∙ ap bucket-of-key (sym is-key); held = ∣ (x, holds, sym is-key) ∣₁ };
           cursor = λ _.
               ap (λ (e : Entry). after e (entries q)) pair-is ∙ after-place (entries q) ordered k no-entry (omega (arith, some))
               ∙ ap (λ (i : ℕ). drop i (entries q)) next-place;

@@ -2,23 +2,27 @@
 use mathlib.Core.Path.{_≡_, refl, sym, ap, subst⁻¹, _∙_}
 use mathlib.Core.Logic.{_↔_, _∨₁_, Or·elim, Iff·or, Iff·rfl, Iff·trans, ∥∥₁-elim, ∥∥₁-prop, Dec·not}
 use mathlib.Core.HLevel.{×-prop}
-use mathlib.Core.List.{List, [], _∷_, List·Mem, mem-filter}
-use Prim.Native.Nat.{ℕ, _+_, _%_, _≤_}
+use mathlib.Core.List.{List, [], List·Mem, mem-filter}
+use Prim.Native.Nat.{ℕ, _+_, _≤_}
 use native.Mathlib.Bridge.{le-prop}
 use native.Mathlib.Decide.{ℕ-discrete}
 use native.Mathlib.Omega.{arith}
-use lib.ListN.{length}
+use lib.ListN.{length, getD-replicate}
 use Rattle.queue.specs.Order.{Entry}
-use Rattle.queue.specs.Entries.{without, after, key-of, InBounds}
-use Rattle.queue.specs.Layout.{id-at, key-at, entries, Sound}
-use Rattle.queue.specs.Calls.{inserted, moved, refused-find, next-of}
+use Rattle.queue.specs.Entries.{without, key-of}
+use Rattle.queue.specs.Layout.{id-at, key-at, entries, empty-queue, Sound}
+use Rattle.queue.specs.Calls.{inserted, moved, HasEntries}
 use Rattle.queue.specs.EntryFacts.{InOrder, entry-set, in-put, put-new, put-old}
 use Rattle.queue.specs.Layout.Collected.{entry, of-collected, collected-in-order, collected-length}
-use Rattle.queue.specs.Layout.Decide.{decide-sound}
-use Rattle.queue.specs.Layout.SoundFacts.{sound-once, sound-in-bounds}
+use Rattle.queue.specs.Layout.SoundFacts.{sound-once}
 use Rattle.queue.specs.Layout.Change.{key-of-only}
-use Rattle.queue.specs.Layout.First.{first-none, first-some}
+use Rattle.queue.specs.Layout.Heads.{lone-heads-alone, alone-empty}
 use Rattle.queue.specs.declared.Queue.{Queue}
+
+-- the empty queue is sound and has no entry
+pub empty-has-none : HasEntries empty-queue []
+unfolding empty-queue
+empty-has-none = alone-empty empty-queue (λ i below. getD-replicate 64 i 0 0 below) lone-heads-alone lone-heads-alone
 
 module _ (q : Queue) (sound : Sound q) where
   -- entries are in order, by key and then id
@@ -49,14 +53,6 @@ module _ (q : Queue) (sound : Sound q) where
       (sound-once q sound (v .0) (w .0) (v .1) (w .1) (v .2) (sym (ap (λ (a : Entry). a .id) (v .3)) ∙ (same ∙ ap (λ (a : Entry). a .id) (w .3))))
       ∙ sym (w .3))))
 
-  -- keys are at most 2,000,000,000 and at most 479 apart
-  pub entries-in-bounds : InBounds (entries q)
-  entries-in-bounds = sound-in-bounds q sound
-
-  -- so a bucket holds one key: keys that are equal modulo 480 are equal
-  pub one-key-a-bucket : (d e : Entry) → List·Mem d (entries q) → List·Mem e (entries q) → d .key % 480 ≡ e .key % 480 → d .key ≡ e .key
-  one-key-a-bucket d e md me same = omega (arith, entries-in-bounds .span d e md me, entries-in-bounds .span e d me md)
-
 -- an entry is left by `without` exactly if it was there under another id
 pub in-without-iff : (id : ℕ) (es : List Entry) (e : Entry) → List·Mem e (without id es) ↔ (List·Mem e es × (e .id ≡ id → ⊥))
 unfolding without
@@ -80,10 +76,3 @@ module _ (q : Queue) (sound : Sound q) where
       rw (key-of-entry d m)
       (Iff·trans (in-inserted-iff (d .id) (d .key + amount) (without (d .id) (entries q)) e)
       (Iff·or Iff·rfl (in-without-iff (d .id) (entries q) e)))
-
-  -- what next answers: 25 where no entry is after the pair, else the first that is
-  pub next-none : (key id : ℕ) → after (record { key = key; id = id }) (entries q) ≡ [] → next-of q key id ≡ refused-find 25
-  next-none key id none = rw none (first-none (decide-sound q) sound)
-
-  pub next-some : (key id : ℕ) (e : Entry) (es : List Entry) → after (record { key = key; id = id }) (entries q) ≡ e ∷ es → next-of q key id ≡ record { answer = 0; key = e .key; id = e .id }
-  next-some key id e es some = rw some (first-some (decide-sound q) sound e es)

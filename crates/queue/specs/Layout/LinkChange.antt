@@ -1,11 +1,11 @@
 -- The links after an entry is put in or taken out.
 use mathlib.Core.Path.{_≡_, sym, ap, subst, subst⁻¹, _∙_}
 use mathlib.Core.Logic.{inl, inr, ite}
-use Prim.Native.Nat.{ℕ, _-_, _%_, _≤_, _<_}
+use Prim.Native.Nat.{ℕ, _-_, _≤_, _<_}
 use native.Mathlib.Nat.{lt-irrefl}
 use native.Mathlib.Decide.{decLt, ℕ-discrete}
 use native.Mathlib.Omega.{arith}
-use Rattle.queue.specs.Layout.{IsNode, bucket-of, low, high, Linked, AllLinked}
+use Rattle.queue.specs.Layout.{IsNode, bucket-of-key, bucket-of, low, high, Linked, AllLinked}
 use Rattle.queue.specs.Layout.LinkFacts.{low-place, high-place, bucket-place}
 
 -- f′ is f with the value v at x
@@ -29,7 +29,7 @@ module _ (ids ids′ keys keys′ : ℕ → ℕ) (y : ℕ) (same-id : ids′ y �
 
   keep-bucket : bucket-of keys′ y ≡ bucket-of keys y
   unfolding bucket-of
-  keep-bucket = ap (λ (v : ℕ). ite (decLt y 64) (v % 480) (y - 64)) same-key
+  keep-bucket = ap (λ (v : ℕ). ite (decLt y 64) (bucket-of-key v) (y - 64)) same-key
 
 -- the two halves of Linked: the link to the next node, and the link to the one before
 abbrev NextOk : (ids keys next prev : ℕ → ℕ) → ℕ → Type 0
@@ -58,7 +58,7 @@ module _ (ids ids′ keys keys′ next′ prev′ : ℕ → ℕ) (y z : ℕ) (sa
 -- the links after an entry is put between a node p and the next one
 module _ (ids ids′ keys keys′ next next′ prev prev′ : ℕ → ℕ) (x id key p : ℕ)
     (linked : AllLinked ids keys next prev) (set-id : IsSet ids x id ids′) (set-key : IsSet keys x key keys′)
-    (inside : x < 64) (free : ids x ≡ 0) (some : 1 ≤ id) (p-node : IsNode ids p) (bucket : bucket-of keys p ≡ key % 480)
+    (inside : x < 64) (free : ids x ≡ 0) (some : 1 ≤ id) (p-node : IsNode ids p) (bucket : bucket-of keys p ≡ bucket-of-key key)
     (above : low ids p < id) (below : id < high ids (next p))
     (from-p : next′ p ≡ x) (from-x : next′ x ≡ next p) (next-else : (y : ℕ) → (y ≡ p → ⊥) → (y ≡ x → ⊥) → next′ y ≡ next y)
     (to-n : prev′ (next p) ≡ x) (to-x : prev′ x ≡ p) (prev-else : (y : ℕ) → (y ≡ next p → ⊥) → (y ≡ x → ⊥) → prev′ y ≡ prev y) where
@@ -76,8 +76,8 @@ module _ (ids ids′ keys keys′ next next′ prev prev′ : ℕ → ℕ) (x id
   n-node : IsNode ids (next p)
   n-node = linked p p-node .next-is-node
 
-  x-bucket : bucket-of keys′ x ≡ key % 480
-  x-bucket = bucket-place keys′ x inside ∙ ap (λ (v : ℕ). v % 480) (set-key .at)
+  x-bucket : bucket-of keys′ x ≡ bucket-of-key key
+  x-bucket = bucket-place keys′ x inside ∙ ap bucket-of-key (set-key .at)
 
   kept : (y : ℕ) → IsNode ids y → (ids′ y ≡ ids y) × (keys′ y ≡ keys y)
   kept y node = (set-id .elsewhere y (not-free y node), set-key .elsewhere y (not-free y node))

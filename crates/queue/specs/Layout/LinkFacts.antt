@@ -2,12 +2,12 @@
 use mathlib.Core.Path.{_≡_, refl, sym, ap, subst, subst⁻¹, _∙_}
 use mathlib.Core.Logic.{inl, inr, if-pos, if-neg}
 use mathlib.Core.WellFounded.{recursion}
-use Prim.Native.Nat.{ℕ, _+_, _-_, _%_, _≤_, _<_}
+use Prim.Native.Nat.{ℕ, _+_, _-_, _≤_, _<_}
 use native.Mathlib.Nat.{lt-irrefl}
 use native.Mathlib.Decide.{decLt}
 use native.Mathlib.Omega.{arith}
 use lib.WfN.{Nat·lt-wfRel}
-use Rattle.queue.specs.Layout.{IsNode, bucket-of, low, high, Linked, AllLinked}
+use Rattle.queue.specs.Layout.{IsNode, bucket-of-key, bucket-of, low, high, Linked, AllLinked}
 
 -- The nodes from one to before another are linked.
 abbrev pub LinkedBetween : (ids keys next prev : ℕ → ℕ) → ℕ → ℕ → Type 0
@@ -43,13 +43,13 @@ pub high-head : (ids : ℕ → ℕ) (x : ℕ) → 64 ≤ x → high ids x ≡ 32
 unfolding high
 high-head ids x head = if-neg (decLt x 64) (λ l. omega arith) (ids x) 32768
 
-pub bucket-place : (keys : ℕ → ℕ) (x : ℕ) → x < 64 → bucket-of keys x ≡ keys x % 480
+pub bucket-place : (keys : ℕ → ℕ) (x : ℕ) → x < 64 → bucket-of keys x ≡ bucket-of-key (keys x)
 unfolding bucket-of
-bucket-place keys x inside = if-pos (decLt x 64) inside (keys x % 480) (x - 64)
+bucket-place keys x inside = if-pos (decLt x 64) inside (bucket-of-key (keys x)) (x - 64)
 
 pub bucket-head : (keys : ℕ → ℕ) (x : ℕ) → 64 ≤ x → bucket-of keys x ≡ x - 64
 unfolding bucket-of
-bucket-head keys x head = if-neg (decLt x 64) (λ l. omega arith) (keys x % 480) (x - 64)
+bucket-head keys x head = if-neg (decLt x 64) (λ l. omega arith) (bucket-of-key (keys x)) (x - 64)
 
 -- a node with a low end above 0 is an entry
 pub positive-low : (ids : ℕ → ℕ) (x : ℕ) → IsNode ids x → 0 < low ids x → (x < 64) × (1 ≤ ids x)

@@ -2,7 +2,7 @@
 use mathlib.Core.Path.{_≡_, sym, ap, subst, subst⁻¹, _∙_}
 use mathlib.Core.Logic.{inl, inr, ∥∥₁-elim, Dec·not}
 use mathlib.Core.List.{List, List·Mem, mem-filter}
-use Prim.Native.Nat.{ℕ, _%_, _≤_, _<_}
+use Prim.Native.Nat.{ℕ, _≤_, _<_}
 use native.Mathlib.Bridge.{le-prop}
 use native.Mathlib.Nat.{lt-irrefl}
 use native.Mathlib.Decide.{ℕ-discrete}
@@ -11,7 +11,7 @@ use lib.ListN.{length, getD, set, length-set}
 use lib.Seq.{getD-set-same, getD-set-other}
 use Rattle.queue.specs.Order.{Entry}
 use Rattle.queue.specs.Entries.{put, without, InBounds}
-use Rattle.queue.specs.Layout.{id-at, key-at, next-at, prev-at, Holds, entries, IsNode, bucket-of, low, high, Linked, AllLinked, Sound}
+use Rattle.queue.specs.Layout.{id-at, key-at, next-at, prev-at, Holds, entries, IsNode, bucket-of-key, bucket-of, low, high, Linked, AllLinked, Sound}
 use Rattle.queue.specs.Layout.LinkFacts.{high-place, low-place}
 use Rattle.queue.specs.Layout.LinkChange.{IsSet, put-linked, taken-linked}
 use Rattle.queue.specs.Layout.Collected.{Once, entry, of-collected, in-collected, put-once, put-collected, taken-once, taken-collected}
@@ -55,7 +55,7 @@ made-sound q range once bounds links =
     }
 
 module _ (q : Queue) (sound : Sound q) (shape : HasShape q) (x id key n : ℕ) (inside : x < 64) (free : id-at q x ≡ 0) (some : 1 ≤ id) (small : id ≤ 32767)
-    (unused : (i : ℕ) → i < 64 → id-at q i ≡ id → ⊥) (node : IsNode (id-at q) n) (bucket : bucket-of (key-at q) n ≡ key % 480)
+    (unused : (i : ℕ) → i < 64 → id-at q i ≡ id → ⊥) (node : IsNode (id-at q) n) (bucket : bucket-of (key-at q) n ≡ bucket-of-key key)
     (above : low (id-at q) (prev-at q n) < id) (below : id < high (id-at q) n) where
   q′ : Queue
   q′ = put-before q x id key n

@@ -1,22 +1,22 @@
 -- A walk along a bucket's list: what is known of the node reached.
 use mathlib.Core.Path.{_≡_, subst⁻¹, _∙_}
 use mathlib.Core.Logic.{inl, inr}
-use Prim.Native.Nat.{ℕ, _+_, _-_, _%_, _≤_, _<_}
+use Prim.Native.Nat.{ℕ, _+_, _-_, _≤_, _<_}
 use native.Mathlib.Nat.{mod-lt}
 use native.Mathlib.Omega.{arith}
 use lib.Arith.{lt-of-le-ne}
-use Rattle.queue.specs.Layout.{id-at, key-at, next-at, prev-at, Holds, IsNode, bucket-of, low, high, Sound}
+use Rattle.queue.specs.Layout.{id-at, key-at, next-at, prev-at, Holds, IsNode, bucket-of-key, bucket-of, low, high, Sound}
 use Rattle.queue.specs.Layout.LinkFacts.{low-place, low-head, high-place, high-head, bucket-head}
 use Rattle.queue.specs.Inner.{IsPosition, IsNew}
 use Rattle.queue.specs.declared.Queue.{Queue}
 
-pub head-below : (key : ℕ) → 64 + key % 480 < 544
+pub head-below : (key : ℕ) → 64 + bucket-of-key key < 544
 head-below key = omega (arith, mod-lt key {m = 480} (omega arith))
 
 -- a node of the key's bucket with only smaller ids before it
 pub record Reached (q : Queue) (key id n : ℕ) : Type 0 where
   pub node : IsNode (id-at q) n
-  pub bucket : bucket-of (key-at q) n ≡ key % 480
+  pub bucket : bucket-of (key-at q) n ≡ bucket-of-key key
   pub above : low (id-at q) (prev-at q n) < id
 
 module _ (q : Queue) (sound : Sound q) where
@@ -25,14 +25,14 @@ module _ (q : Queue) (sound : Sound q) where
   node-place n (inr head) inside = (inside, omega (arith, head .0, inside))
 
   -- from a node to the next
-  step : (key id x : ℕ) → IsNode (id-at q) x → bucket-of (key-at q) x ≡ key % 480 → low (id-at q) x < id → Reached q key id (next-at q x)
+  step : (key id x : ℕ) → IsNode (id-at q) x → bucket-of (key-at q) x ≡ bucket-of-key key → low (id-at q) x < id → Reached q key id (next-at q x)
   step key id x node bucket less =
       let l = sound .links x node in
       record { node = l .next-is-node; bucket = l .next-in-bucket ∙ bucket; above = rw (l .next-returns) less }
 
-  pub reached-first : (key id n : ℕ) → 1 ≤ id → n ≡ next-at q (64 + key % 480) → Reached q key id n
+  pub reached-first : (key id n : ℕ) → 1 ≤ id → n ≡ next-at q (64 + bucket-of-key key) → Reached q key id n
   reached-first key id n some e =
-      let h = 64 + key % 480 in
+      let h = 64 + bucket-of-key key in
       let from : 64 ≤ h = omega arith in
       subst⁻¹ (Reached q key id) e
       (step key id h (inr (from, head-below key)) (bucket-head (key-at q) h from ∙ omega arith) (omega (arith, low-head (id-at q) h from)))

@@ -1,7 +1,6 @@
 -- `planner::removal::remove_sound` meets its contract: table and queue lose the same stream.
 use Rattle.planner.specs.FilesFacts.{can-delete}
 use Rattle.planner.specs.ChangeFacts.{can-take-out, removed-with}
-use borrow.Author.Needs.{needs}
 use Rattle.planner.proofs.removal.remove_sound.Statement.{statement}
 use Rattle.planner.proofs.removal.remove_sound.Tie as tie
 

@@ -45,14 +45,14 @@ element-copy-out-id c = place-below (c .before .before .before .before .before .
 wide-requires : tie.Need-wide-requires Inv-loop μ-loop
 wide-requires c κs = tt
 
-place-among-requires : tie.Need-place-among-requires Inv-loop μ-loop
-place-among-requires c κs = can-search (c .before .before .before .before .before .before .before .before .before .before .before .before .before .args .p) (c .before .before .before .before .before .before .before .before .before .before .before .before .before .args .start) (c .before .before .before .before .before .before .before .before .before .before .before .before .before .pre) (planner-shape (c .before .before .before .before .before .before .before .before .before .before .before .before .before .args .p) _ (c .before .before .before .before .before .before .before .before .before .before .before .before .before .good .0)) (c .before .before .before .before .before .before .before .ids-in-range .result) (c .before .before .before .before .before .before .before .ids-in-range .ensures)
+place-among-rising-requires : tie.Need-place-among-rising-requires Inv-loop μ-loop
+place-among-rising-requires c κs = can-search (c .before .before .before .before .before .before .before .before .before .before .before .before .before .args .p) (c .before .before .before .before .before .before .before .before .before .before .before .before .before .args .start) (c .before .before .before .before .before .before .before .before .before .before .before .before .before .pre) (planner-shape (c .before .before .before .before .before .before .before .before .before .before .before .before .before .args .p) _ (c .before .before .before .before .before .before .before .before .before .before .before .before .before .good .0)) (c .before .before .before .before .before .before .before .ids-in-range .result) (c .before .before .before .before .before .before .before .ids-in-range .ensures)
 
 mul-stream : tie.Need-mul-stream Inv-loop μ-loop
-mul-stream c = omega (arith, c .place-among .ensures .within)
+mul-stream c = omega (arith, c .place-among-rising .ensures .within)
 
 array-copy-out-stream : tie.Need-array-copy-out-stream Inv-loop μ-loop
-array-copy-out-stream c = c .place-among .ensures .within
+array-copy-out-stream c = c .place-among-rising .ensures .within
 
 mul-chosen : tie.Need-mul-chosen Inv-loop μ-loop
 mul-chosen c = omega (arith, still-room (c .before .before .before .before .before .before .before .before .before .before .before .before .before .before .before .before .before .args .p) (c .before .before .before .before .before .before .before .before .before .before .before .before .before .before .before .before .before .args .start) (c .before .before .before .before .before .before .before .before .before .before .before .before .before .before .before .before .before .pre) (planner-shape (c .before .before .before .before .before .before .before .before .before .before .before .before .before .before .before .before .before .args .p) _ (c .before .before .before .before .before .before .before .before .before .before .before .before .before .before .before .before .before .good .0)) (c .before .before .before .before .before .before .before .before .before .before .loop .i) (c .before .before .before .before .before .before .before .before .before .before .loop .chosen) (c .before .before .before .before .before .before .before .before .before .before .loop .inv) (c .before .before .before .before .before .before .before .if2 .left))
@@ -84,8 +84,8 @@ loop-less c = omega arith
 loop-again : tie.Need-loop-again Inv-loop μ-loop
 loop-again c =
     ⊎-elim
-    (λ w. subst⁻¹ (Visited (c .before .before .before .before .before .before .before .before .before .before .before .before .before .before .before .before .before .args .p .queue) (c .before .before .before .before .before .before .before .before .before .before .before .before .before .before .before .before .before .args .p .table) (c .before .before .before .before .before .before .before .before .before .before .before .before .before .before .before .before .before .args .p .slots) (c .before .before .before .before .before .before .before .before .before .before .before .before .before .before .before .before .before .args .start) (c .before .before .before .before .before .before .before .before .before .before .loop .i + 1)) (w .1) (one-more-taken-in (c .before .before .before .before .before .before .before .before .before .before .before .before .before .before .before .before .before .args .p) (c .before .before .before .before .before .before .before .before .before .before .before .before .before .before .before .before .before .args .start) (c .before .before .before .before .before .before .before .before .before .before .before .before .before .before .before .before .before .pre) (planner-shape (c .before .before .before .before .before .before .before .before .before .before .before .before .before .before .before .before .before .args .p) _ (c .before .before .before .before .before .before .before .before .before .before .before .before .before .before .before .before .before .good .0)) (c .before .before .before .before .before .before .before .before .before .before .loop .i) (c .before .before .before .before .before .before .before .before .before .before .loop .chosen) (c .before .before .before .before .before .before .before .before .before .before .loop .inv) (c .before .before .before .before .before .before .before .before .if1 .taken) (c .before .before .before .before .before .before .before .before .before .before .before .before .places-in-order-sound .result) (c .before .before .before .before .before .before .before .before .before .before .before .before .places-in-order-sound .ensures) (c .before .before .before .before .before .before .before .before .before .before .before .ids-in-range .result) (c .before .before .before .before .before .before .before .before .before .before .before .ids-in-range .ensures) (c .before .before .before .place-among .result) (subst (λ (n : ℕ). IsPlaceAmong (c .before .before .before .before .before .before .before .before .before .before .before .ids-in-range .result) n (c .before .before .before .place-among .result)) (c .before .before .before .before .wide .ensures) (c .before .before .before .place-among .ensures)) (c .before .before .before .before .before .before .before .if2 .left) (w .0 .taken)))
-    (λ w. subst⁻¹ (Visited (c .before .before .before .before .before .before .before .before .before .before .before .before .before .before .before .before .before .args .p .queue) (c .before .before .before .before .before .before .before .before .before .before .before .before .before .before .before .before .before .args .p .table) (c .before .before .before .before .before .before .before .before .before .before .before .before .before .before .before .before .before .args .p .slots) (c .before .before .before .before .before .before .before .before .before .before .before .before .before .before .before .before .before .args .start) (c .before .before .before .before .before .before .before .before .before .before .loop .i + 1)) (w .1) (one-more-skipped-in (c .before .before .before .before .before .before .before .before .before .before .before .before .before .before .before .before .before .args .p) (c .before .before .before .before .before .before .before .before .before .before .before .before .before .before .before .before .before .args .start) (c .before .before .before .before .before .before .before .before .before .before .before .before .before .before .before .before .before .pre) (planner-shape (c .before .before .before .before .before .before .before .before .before .before .before .before .before .before .before .before .before .args .p) _ (c .before .before .before .before .before .before .before .before .before .before .before .before .before .before .before .before .before .good .0)) (c .before .before .before .before .before .before .before .before .before .before .loop .i) (c .before .before .before .before .before .before .before .before .before .before .loop .chosen) (c .before .before .before .before .before .before .before .before .before .before .loop .inv) (c .before .before .before .before .before .before .before .before .if1 .taken) (c .before .before .before .before .before .before .before .before .before .before .before .before .places-in-order-sound .result) (c .before .before .before .before .before .before .before .before .before .before .before .before .places-in-order-sound .ensures) (c .before .before .before .before .before .before .before .before .before .before .before .ids-in-range .result) (c .before .before .before .before .before .before .before .before .before .before .before .ids-in-range .ensures) (c .before .before .before .place-among .result) (subst (λ (n : ℕ). IsPlaceAmong (c .before .before .before .before .before .before .before .before .before .before .before .ids-in-range .result) n (c .before .before .before .place-among .result)) (c .before .before .before .before .wide .ensures) (c .before .before .before .place-among .ensures)) (w .0 .left)))
+    (λ w. subst⁻¹ (Visited (c .before .before .before .before .before .before .before .before .before .before .before .before .before .before .before .before .before .args .p .queue) (c .before .before .before .before .before .before .before .before .before .before .before .before .before .before .before .before .before .args .p .table) (c .before .before .before .before .before .before .before .before .before .before .before .before .before .before .before .before .before .args .p .slots) (c .before .before .before .before .before .before .before .before .before .before .before .before .before .before .before .before .before .args .start) (c .before .before .before .before .before .before .before .before .before .before .loop .i + 1)) (w .1) (one-more-taken-in (c .before .before .before .before .before .before .before .before .before .before .before .before .before .before .before .before .before .args .p) (c .before .before .before .before .before .before .before .before .before .before .before .before .before .before .before .before .before .args .start) (c .before .before .before .before .before .before .before .before .before .before .before .before .before .before .before .before .before .pre) (planner-shape (c .before .before .before .before .before .before .before .before .before .before .before .before .before .before .before .before .before .args .p) _ (c .before .before .before .before .before .before .before .before .before .before .before .before .before .before .before .before .before .good .0)) (c .before .before .before .before .before .before .before .before .before .before .loop .i) (c .before .before .before .before .before .before .before .before .before .before .loop .chosen) (c .before .before .before .before .before .before .before .before .before .before .loop .inv) (c .before .before .before .before .before .before .before .before .if1 .taken) (c .before .before .before .before .before .before .before .before .before .before .before .before .places-in-order-sound .result) (c .before .before .before .before .before .before .before .before .before .before .before .before .places-in-order-sound .ensures) (c .before .before .before .before .before .before .before .before .before .before .before .ids-in-range .result) (c .before .before .before .before .before .before .before .before .before .before .before .ids-in-range .ensures) (c .before .before .before .place-among-rising .result) (subst (λ (n : ℕ). IsPlaceAmong (c .before .before .before .before .before .before .before .before .before .before .before .ids-in-range .result) n (c .before .before .before .place-among-rising .result)) (c .before .before .before .before .wide .ensures) (c .before .before .before .place-among-rising .ensures)) (c .before .before .before .before .before .before .before .if2 .left) (w .0 .taken)))
+    (λ w. subst⁻¹ (Visited (c .before .before .before .before .before .before .before .before .before .before .before .before .before .before .before .before .before .args .p .queue) (c .before .before .before .before .before .before .before .before .before .before .before .before .before .before .before .before .before .args .p .table) (c .before .before .before .before .before .before .before .before .before .before .before .before .before .before .before .before .before .args .p .slots) (c .before .before .before .before .before .before .before .before .before .before .before .before .before .before .before .before .before .args .start) (c .before .before .before .before .before .before .before .before .before .before .loop .i + 1)) (w .1) (one-more-skipped-in (c .before .before .before .before .before .before .before .before .before .before .before .before .before .before .before .before .before .args .p) (c .before .before .before .before .before .before .before .before .before .before .before .before .before .before .before .before .before .args .start) (c .before .before .before .before .before .before .before .before .before .before .before .before .before .before .before .before .before .pre) (planner-shape (c .before .before .before .before .before .before .before .before .before .before .before .before .before .before .before .before .before .args .p) _ (c .before .before .before .before .before .before .before .before .before .before .before .before .before .before .before .before .before .good .0)) (c .before .before .before .before .before .before .before .before .before .before .loop .i) (c .before .before .before .before .before .before .before .before .before .before .loop .chosen) (c .before .before .before .before .before .before .before .before .before .before .loop .inv) (c .before .before .before .before .before .before .before .before .if1 .taken) (c .before .before .before .before .before .before .before .before .before .before .before .before .places-in-order-sound .result) (c .before .before .before .before .before .before .before .before .before .before .before .before .places-in-order-sound .ensures) (c .before .before .before .before .before .before .before .before .before .before .before .ids-in-range .result) (c .before .before .before .before .before .before .before .before .before .before .before .ids-in-range .ensures) (c .before .before .before .place-among-rising .result) (subst (λ (n : ℕ). IsPlaceAmong (c .before .before .before .before .before .before .before .before .before .before .before .ids-in-range .result) n (c .before .before .before .place-among-rising .result)) (c .before .before .before .before .wide .ensures) (c .before .before .before .place-among-rising .ensures)) (w .0 .left)))
     (c .if3 .came)
 
 returns-2 : tie.Need-returns-2 Inv-loop μ-loop
@@ -107,7 +107,7 @@ choose-sound-spec =
     mul-id
     element-copy-out-id
     wide-requires
-    place-among-requires
+    place-among-rising-requires
     mul-stream
     array-copy-out-stream
     mul-chosen

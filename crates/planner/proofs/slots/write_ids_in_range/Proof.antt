@@ -12,8 +12,6 @@ use borrow.Kind.Array.{good-length, eInt}
 use borrow.Author.Needs.{needs}
 use Rattle.planner.proofs.slots.write_ids_in_range.Statement.{statement}
 use Rattle.planner.proofs.slots.write_ids_in_range.Tie as tie
-use Rattle.planner.proofs.slots.write_ids_in_range.Reads as reads
-use Rattle.planner.proofs.slots.write_ids_in_range.Lts as lts
 
 abbrev Inv-loop : tie.InvT-loop
 Inv-loop buffer₀ n ids k₀ buffer k = (k ≤ n) × (buffer ≡ take k ids ++ drop k buffer₀) × (length buffer ≡ length buffer₀)

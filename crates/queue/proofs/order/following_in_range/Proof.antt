@@ -35,20 +35,20 @@ node-at-requires c κs = c .pre
 returns : tie.Need-returns Inv-loop μ-loop
 returns c = λ q is-keys is-next sound stands. next-follows q sound (c .before .before .args .key) (c .before .before .args .n) stands (c .before .node-at .result) (there (c .before .before .args .n) (c .before .node-at .result) is-next (c .before .node-at .ensures)) (c .if1 .taken)
 
-residue-requires : tie.Need-residue-requires Inv-loop μ-loop
-residue-requires c κs = tt
+bucket-of-key-requires : tie.Need-bucket-of-key-requires Inv-loop μ-loop
+bucket-of-key-requires c κs = tt
 
 bucket-after-requires : tie.Need-bucket-after-requires Inv-loop μ-loop
-bucket-after-requires c κs = rw (c .residue .ensures) (mod-lt (c .before .before .before .args .key) {m = 480} (omega arith))
+bucket-after-requires c κs = rw (c .bucket-of-key .ensures) (mod-lt (c .before .before .before .args .key) {m = 480} (omega arith))
 
 loop-holds : tie.Need-loop-holds Inv-loop μ-loop
 loop-holds c =
     record {
-      below = rw (c .bucket-after .ensures) (mod-lt (c .before .residue .result + 1) {m = 480} (omega arith));
+      below = rw (c .bucket-after .ensures) (mod-lt (c .before .bucket-of-key .result + 1) {m = 480} (omega arith));
       few = omega arith;
       at = λ q is-keys is-next sound stands.
-          after-own q sound (c .before .before .before .before .args .key) (c .before .before .before .before .args .n) stands (c .before .before .before .node-at .result) (c .bucket-after .result) (c .before .residue .result) (there (c .before .before .before .before .args .n) (c .before .before .before .node-at .result) is-next (c .before .before .before .node-at .ensures)) (c .before .before .if1 .left)
-          (c .before .residue .ensures) (c .bucket-after .ensures);
+          after-own q sound (c .before .before .before .before .args .key) (c .before .before .before .before .args .n) stands (c .before .before .before .node-at .result) (c .bucket-after .result) (c .before .bucket-of-key .result) (there (c .before .before .before .before .args .n) (c .before .before .before .node-at .result) is-next (c .before .before .before .node-at .ensures)) (c .before .before .if1 .left)
+          (c .before .bucket-of-key .ensures) (c .bucket-after .ensures);
     }
 
 add-node-at : tie.Need-add-node-at Inv-loop μ-loop
@@ -103,7 +103,7 @@ following-in-range-spec =
     μ-loop
     node-at-requires
     returns
-    residue-requires
+    bucket-of-key-requires
     bucket-after-requires
     loop-holds
     add-node-at

@@ -10,10 +10,6 @@ use Rattle.queue.specs.Layout.Change.{filed-place, delete-can-take, dele
 use borrow.Author.Needs.{needs}
 use Rattle.queue.proofs.sound.delete_sound.Statement.{statement}
 use Rattle.queue.proofs.sound.delete_sound.Tie as tie
-use Rattle.queue.proofs.sound.delete_sound.Reads as reads
-use Rattle.queue.proofs.sound.delete_sound.Lts as lts
-use Rattle.queue.proofs.links.place_of.Reads as place-of-reads
-use Rattle.queue.proofs.links.take_out.Reads as take-out-reads
 
 -- src/sound.rt:99:9
 place-of-requires : tie.Need-place-of-requires

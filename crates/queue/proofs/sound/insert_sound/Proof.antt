@@ -7,11 +7,6 @@ use Rattle.queue.specs.Layout.Change.{insert-new, insert-can-put, insert
 use borrow.Author.Needs.{needs}
 use Rattle.queue.proofs.sound.insert_sound.Statement.{statement}
 use Rattle.queue.proofs.sound.insert_sound.Tie as tie
-use Rattle.queue.proofs.sound.insert_sound.Reads as reads
-use Rattle.queue.proofs.sound.insert_sound.Lts as lts
-use Rattle.queue.proofs.links.place_of.Reads as place-of-reads
-use Rattle.queue.proofs.links.position_sound.Reads as position-sound-reads
-use Rattle.queue.proofs.links.put_before.Reads as put-before-reads
 
 -- src/sound.rt:79:9
 place-of-requires : tie.Need-place-of-requires

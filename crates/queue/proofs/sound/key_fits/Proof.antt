@@ -6,6 +6,7 @@ use borrow.Author.Count.{below-none, below-more}
 use borrow.Author.Tests.{not-true, not-false}
 use Rattle.basics.specs.Decides.{decides-yes, decides-no}
 use Rattle.queue.specs.Inner.{PlaceFits}
+use borrow.Author.Needs.{needs}
 use Rattle.queue.proofs.sound.key_fits.Statement.{statement}
 use Rattle.queue.proofs.sound.key_fits.Tie as tie
 
@@ -14,6 +15,9 @@ Inv-loop ids keys out key i₀ i = (i ≤ 64) × ((j : ℕ) → j < i → PlaceF
 
 abbrev μ-loop : tie.MeasureT-loop
 μ-loop ids keys out key i₀ i = 64 - i
+
+cast-if1 : tie.Need-cast-if1 Inv-loop μ-loop
+cast-if1 c = search needs
 
 returns : tie.Need-returns Inv-loop μ-loop
 returns c = decides-no (λ fits. lt-irrefl 2_000_000_000 (lt-of-lt-of-le (c .if1 .taken) (fits .0)))
@@ -45,6 +49,7 @@ key-fits-spec =
     (tie.spec
     Inv-loop
     μ-loop
+    cast-if1
     returns
     loop-holds
     place-fits-requires

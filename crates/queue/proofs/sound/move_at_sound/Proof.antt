@@ -9,12 +9,6 @@ use Rattle.queue.specs.declared.Queue.{Queue}
 use Rattle.queue.specs.Layout.Change.{move-fits, delete-can-take, move-new, move-can-put, moved-at}
 use Rattle.queue.proofs.sound.move_at_sound.Statement.{statement}
 use Rattle.queue.proofs.sound.move_at_sound.Tie as tie
-use Rattle.queue.proofs.sound.move_at_sound.Reads as reads
-use Rattle.queue.proofs.sound.move_at_sound.Lts as lts
-use Rattle.queue.proofs.links.position_sound.Reads as position-sound-reads
-use Rattle.queue.proofs.links.put_before.Reads as put-before-reads
-use Rattle.queue.proofs.links.take_out.Reads as take-out-reads
-use Rattle.queue.proofs.links.wide.Reads as wide-reads
 
 -- a position found in the queue that is left, with the id read again
 found-there : (r left : Queue) (key w id n : ℕ) → r ≡ left → w ≡ id → IsPosition r key w n → IsPosition left key id n

@@ -7,10 +7,6 @@ use Rattle.queue.specs.Layout.Change.{filed-place, move-at}
 use borrow.Author.Needs.{needs}
 use Rattle.queue.proofs.sound.move_sound.Statement.{statement}
 use Rattle.queue.proofs.sound.move_sound.Tie as tie
-use Rattle.queue.proofs.sound.move_sound.Reads as reads
-use Rattle.queue.proofs.sound.move_sound.Lts as lts
-use Rattle.queue.proofs.links.place_of.Reads as place-of-reads
-use Rattle.queue.proofs.sound.move_at_sound.Reads as move-at-sound-reads
 
 -- src/sound.rt:137:9
 place-of-requires : tie.Need-place-of-requires

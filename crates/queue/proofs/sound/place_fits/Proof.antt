@@ -23,29 +23,29 @@ element-copy-out-if2 c = search needs
 returns-2 : tie.Need-returns-2
 returns-2 c = decides-yes (λ _ some. absurd (lt-irrefl 0 (subst (λ (n : ℕ). 1 ≤ n) (c .if2 .taken) some)))
 
-mul-wide : tie.Need-mul-wide
-mul-wide c = search needs
+mul-wide-key : tie.Need-mul-wide-key
+mul-wide-key c = search needs
 
-element-copy-out-wide : tie.Need-element-copy-out-wide
-element-copy-out-wide c = search needs
+element-copy-out-wide-key : tie.Need-element-copy-out-wide-key
+element-copy-out-wide-key c = search needs
 
-wide-requires : tie.Need-wide-requires
-wide-requires c κs = search needs
+wide-key-requires : tie.Need-wide-key-requires
+wide-key-requires c κs = search needs
 
 sub-if4 : tie.Need-sub-if4
 sub-if4 c = search needs
 
 returns-3 : tie.Need-returns-3
-returns-3 c = decides-no (λ fits. let w = fits (c .before .before .before .before .before .before .if1 .left) (positive _ (c .before .before .before .before .if2 .left)) in omega (arith, c .before .before .wide .ensures, c .if4 .taken, c .before .if3 .taken))
+returns-3 c = decides-no (λ fits. let w = fits (c .before .before .before .before .before .before .if1 .left) (positive _ (c .before .before .before .before .if2 .left)) in omega (arith, c .before .before .wide-key .ensures, c .if4 .taken, c .before .if3 .taken))
 
 returns-4 : tie.Need-returns-4
-returns-4 c = decides-yes (λ _ _. (omega (arith, c .before .before .wide .ensures, c .if4 .left, c .before .if3 .taken), omega (arith, c .before .before .wide .ensures, c .before .if3 .taken)))
+returns-4 c = decides-yes (λ _ _. (omega (arith, c .before .before .wide-key .ensures, c .if4 .left, c .before .if3 .taken), omega (arith, c .before .before .wide-key .ensures, c .before .if3 .taken)))
 
 returns-5 : tie.Need-returns-5
-returns-5 c = decides-no (λ fits. let w = fits (c .before .before .before .before .before .before .if1 .left) (positive _ (c .before .before .before .before .if2 .left)) in omega (arith, c .before .before .wide .ensures, c .if5 .taken, c .before .if3 .left))
+returns-5 c = decides-no (λ fits. let w = fits (c .before .before .before .before .before .before .if1 .left) (positive _ (c .before .before .before .before .if2 .left)) in omega (arith, c .before .before .wide-key .ensures, c .if5 .taken, c .before .if3 .left))
 
 returns-6 : tie.Need-returns-6
-returns-6 c = decides-yes (λ _ _. (omega (arith, c .before .before .wide .ensures, c .before .if3 .left), omega (arith, c .before .before .wide .ensures, c .if5 .left, c .before .if3 .left)))
+returns-6 c = decides-yes (λ _ _. (omega (arith, c .before .before .wide-key .ensures, c .before .if3 .left), omega (arith, c .before .before .wide-key .ensures, c .if5 .left, c .before .if3 .left)))
 
 pub place-fits-spec : {M : Type 1} → statement M
 place-fits-spec =
@@ -55,9 +55,9 @@ place-fits-spec =
     mul-if2
     element-copy-out-if2
     returns-2
-    mul-wide
-    element-copy-out-wide
-    wide-requires
+    mul-wide-key
+    element-copy-out-wide-key
+    wide-key-requires
     sub-if4
     returns-3
     returns-4

@@ -1,9 +1,9 @@
--- `basics::place_among` meets its contract: the place is one of `step` from `low` on, and a step of one leaves it alone.
+-- `basics::place_among_rising` meets its contract: the place is one of `step` from `low` on, and a step of one leaves it alone.
 use native.Mathlib.Omega.{arith}
 use borrow.Author.Needs.{needs}
 use Rattle.basics.specs.PlaceFacts.{IsAmong, among-all, among-half, among-one}
-use Rattle.basics.proofs.place_among.Statement.{statement}
-use Rattle.basics.proofs.place_among.Tie as tie
+use Rattle.basics.proofs.place_among_rising.Statement.{statement}
+use Rattle.basics.proofs.place_among_rising.Tie as tie
 
 abbrev Inv-loop : tie.InvT-loop
 Inv-loop values x low₀ step₀ low step = IsAmong values x low step
@@ -38,8 +38,8 @@ loop-again c = among-half (c .before .before .before .before .pre) (c .before .b
 returns : tie.Need-returns Inv-loop μ-loop
 returns c = among-one (c .before .loop .inv) (c .loop-test .left)
 
-pub place-among-spec : {M : Type 1} → statement M
-place-among-spec =
+pub place-among-rising-spec : {M : Type 1} → statement M
+place-among-rising-spec =
     tie.close
     (tie.spec
     Inv-loop

@@ -1,4 +1,5 @@
 // The planner that the firmware keeps and lends to each call to be changed: thin forms over the calls by value, exported to C.
+// 01: a refused call writes nothing. So add, remove and round store the planner only where the answer is 0; open stores always.
 ghost use mathlib.Core.Path.{_≡_};
 ghost use lib.ListN.{length, take};
 ghost use Rattle.lent.specs.Lent.{IsLentOpen, IsLentAdd, IsLentRemove, IsLentRound};
@@ -39,7 +40,9 @@ pub extern "C" fn planner_add(
     ensures { λ r. ⌜ IsLentAdd (now (p .entry)) id start period deadline (now (p .exit)) r ⌝ }
 {
     let done = planner::add(*p, id, start, period, deadline);
-    *p = done.planner;
+    if done.answer == 0 {
+        *p = done.planner;
+    }
     done.answer
 }
 
@@ -49,7 +52,9 @@ pub extern "C" fn planner_remove(p: &mut Planner, id: u32) -> u32
     ensures { λ r. ⌜ IsLentRemove (now (p .entry)) id (now (p .exit)) r ⌝ }
 {
     let done = planner::remove(*p, id);
-    *p = done.planner;
+    if done.answer == 0 {
+        *p = done.planner;
+    }
     done.answer
 }
 
@@ -59,7 +64,9 @@ pub extern "C" fn planner_round(p: &mut Planner, buffer: &mut [u16]) -> Held
     ensures { λ r. ⌜ IsLentRound (now (p .entry)) (now (buffer .entry)) (now (buffer .exit)) (now (p .exit)) r ⌝ }
 {
     let done = planner::round(*p, buffer);
-    *p = done.planner;
+    if done.answer == 0 {
+        *p = done.planner;
+    }
     Held {
         answer: done.answer,
         start: done.start,

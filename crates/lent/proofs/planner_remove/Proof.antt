@@ -1,4 +1,5 @@
--- `planner_remove` meets its contract: a walk of its MIR, by hand. The lent planner is copied out, `planner::remove` answers for the copy, and where the answer is 0 the planner that it hands back is stored (`Stored.antt`).
+-- `planner_remove` meets its contract: a walk of its MIR, by hand. The lent planner is copied out, `planner::remove` answers for the copy, and where the answer is 0
+-- the planner that it hands back is stored (`Stored.antt`).
 -- All that the proof knows of `planner::remove` is that it meets its contract. Assumes nothing.
 use mathlib.Core.Path.{refl}
 use Prim.Native.Nat.{ℕ, _<_, _^_}
@@ -40,7 +41,7 @@ use Rattle.planner.proofs.remove as callee
 use Rattle.planner.proofs.remove.Symbol as callee-def
 use Rattle.planner.proofs.remove.Symbol.{name as #callee}
 use Rattle.planner.proofs.remove.Met as callee-thm
-use Rattle.lent.proofs.Stored.{mach, Fit, Answer, passes-on, hands-back, copies-out, changes-granted}
+use Rattle.lent.proofs.Stored.{mach, Fit, Answer, passes-on, hands-back, kept, copies-out, lands-change, stores-if, returns-answer}
 use Rattle.lent.proofs.planner_remove.Key.{name as #planner-remove}
 use Rattle.lent.proofs.planner_remove as f
 use Rattle.lent.proofs.planner_remove.Statement as stated
@@ -87,10 +88,13 @@ module _ {M : Type 1} (𝓤 : URA M) (H : Heap 𝓤) (A : Atoms 𝓤) (W : Given
         alloc1 ! (λ l₀. alloc1 ! (λ l₁. alloc1 ! (λ l₂. alloc1 ! (λ l₃. alloc1 ! (λ l₄. alloc1 ! (λ l₅. alloc0 ! $ params1 ! $
         pass1 ! (init ! 8 refl (tt, tt)) $ pass1 ! (init ! 6 refl (tt, record { fits = fits .0 })) $ pass0 ! $
         -- [the locals from _5 down to _0, each with its end; obs; the borrow; the token]
-        move ! (12 ∷ 13 ∷ 14 ∷ 2 ∷ 8 ∷ 4 ∷ 0 ∷ 10 ∷ []) $ copies-out ! h b o refl refl (λ is. use0 W (raw (Callee 𝓤 H A at-mem run .pre to-callee)) (passes-on 𝓤 H A W h is (id ∷ []) fits) $
+        move ! (12 ∷ 13 ∷ 14 ∷ 2 ∷ 8 ∷ 4 ∷ 0 ∷ 10 ∷ []) $ copies-out ! h b o refl refl (λ is.
+        use0 W (raw (Callee 𝓤 H A at-mem run .pre to-callee)) (passes-on 𝓤 H A W h is (id ∷ []) fits) $
         -- [what is passed; the planner's cell; the open borrow; obs; auth; _4; _1; room for _3, _5, _0; the rest in their order]
         calls-at ! fm (Callee 𝓤 H A at-mem run) known to-callee (and-then ! (load ! (from ! (stop !)) (look ! 5 refl)) (and-then ! (load ! (from ! (stop !)) (look ! 13 refl)) (no-more !))) (λ w.
-        use1 W (Answer 𝓤 (lasts callee.ended tt passed) (IsRemove h id) w) (id⊢ 𝓤 _) $ move ! (0 ∷ 1 ∷ 2 ∷ 3 ∷ 4 ∷ 6 ∷ 7 ∷ 8 ∷ 9 ∷ []) $ changes-granted ! w h is b o refl refl refl refl (λ r e r-fits.
+        use1 W (Answer 𝓤 (lasts callee.ended tt passed) (IsRemove h id) w) (id⊢ 𝓤 _) $
+        move ! (0 ∷ 1 ∷ 2 ∷ 3 ∷ 4 ∷ 6 ∷ 7 ∷ 8 ∷ 9 ∷ []) $ lands-change ! w (IsRemove h id) b o refl (λ r e is′ r-fits.
+        stores-if ! is is′ refl refl refl refl tt (kept e) $ move ! (0 ∷ 1 ∷ 2 ∷ 3 ∷ 4 ∷ 6 ∷ []) $ returns-answer ! refl refl r-fits $
         -- [obs; the borrow; the token; room for _1, _3, _0, _5; _4; the rest in their order]
         forget ! 7 refl $ move ! (5 ∷ 14 ∷ 3 ∷ 13 ∷ 11 ∷ 12 ∷ 4 ∷ 10 ∷ 7 ∷ 9 ∷ 6 ∷ 8 ∷ []) $
         forget ! 4 refl $ free1 ! $ free1 ! $ free1 ! $ free1 ! $ free1 ! $ free1 ! $ free0 ! $ by ! (exits r e r-fits))))))))))

@@ -1,4 +1,5 @@
 // The planner that the firmware keeps and lends to each call to be changed: thin forms over the calls by value, exported to C.
+// 01: a refused call writes nothing. So add, remove and round store the planner only where the answer is 0; open stores always.
 ghost use mathlib.Core.Path.{_≡_};
 ghost use lib.ListN.{length, take};
 ghost use Rattle.lent.specs.Lent.{IsLentOpen, IsLentAdd, IsLentRemove, IsLentRound};
@@ -22,9 +23,9 @@ pub struct Held {
 pub extern "C" fn planner_open(p: &mut Planner, slots: u32, frame: u32, gap: u32, last: u32) -> u32
     ensures { λ r. ⌜ IsLentOpen slots frame gap last (now (p .exit)) r ⌝ }
 {
-    let done = planner::open(slots, frame, gap, last);
-    *p = done.planner;
-    done.answer
+    let opened = planner::open(slots, frame, gap, last);
+    *p = opened.planner;
+    opened.answer
 }
 
 // Adds a stream to the lent planner; the answer is that of add.
@@ -38,9 +39,11 @@ pub extern "C" fn planner_add(
 ) -> u32
     ensures { λ r. ⌜ IsLentAdd (now (p .entry)) id start period deadline (now (p .exit)) r ⌝ }
 {
-    let done = planner::add(*p, id, start, period, deadline);
-    *p = done.planner;
-    done.answer
+    let added = planner::add(*p, id, start, period, deadline);
+    if added.answer == 0 {
+        *p = added.planner;
+    }
+    added.answer
 }
 
 // Takes a stream out of the lent planner; the answer is that of remove.
@@ -48,9 +51,11 @@ pub extern "C" fn planner_add(
 pub extern "C" fn planner_remove(p: &mut Planner, id: u32) -> u32
     ensures { λ r. ⌜ IsLentRemove (now (p .entry)) id (now (p .exit)) r ⌝ }
 {
-    let done = planner::remove(*p, id);
-    *p = done.planner;
-    done.answer
+    let removed = planner::remove(*p, id);
+    if removed.answer == 0 {
+        *p = removed.planner;
+    }
+    removed.answer
 }
 
 // Holds a round of the lent planner, and writes its ids into the buffer; the answer is that of round.
@@ -58,12 +63,14 @@ pub extern "C" fn planner_remove(p: &mut Planner, id: u32) -> u32
 pub extern "C" fn planner_round(p: &mut Planner, buffer: &mut [u16]) -> Held
     ensures { λ r. ⌜ IsLentRound (now (p .entry)) (now (buffer .entry)) (now (buffer .exit)) (now (p .exit)) r ⌝ }
 {
-    let done = planner::round(*p, buffer);
-    *p = done.planner;
+    let rounded = planner::round(*p, buffer);
+    if rounded.answer == 0 {
+        *p = rounded.planner;
+    }
     Held {
-        answer: done.answer,
-        start: done.start,
-        n: done.n,
+        answer: rounded.answer,
+        start: rounded.start,
+        n: rounded.n,
     }
 }
 

@@ -1,4 +1,5 @@
--- `planner_add` meets its contract: a walk of its MIR, by hand. The lent planner is copied out, `planner::add` answers for the copy, and the planner that it hands back is stored (`Stored.antt`).
+-- `planner_add` meets its contract: a walk of its MIR, by hand. The lent planner is copied out, `planner::add` answers for the copy, and where the answer is 0
+-- the planner that it hands back is stored (`Stored.antt`).
 -- All that the proof knows of `planner::add` is that it meets its contract. Assumes nothing.
 use mathlib.Core.Path.{refl}
 use Prim.Native.Nat.{ℕ, _<_, _^_}
@@ -40,7 +41,7 @@ use Rattle.planner.proofs.add as callee
 use Rattle.planner.proofs.add.Symbol as callee-def
 use Rattle.planner.proofs.add.Symbol.{name as #callee}
 use Rattle.planner.proofs.add.Met as callee-thm
-use Rattle.lent.proofs.Stored.{mach, Fit, Answer, passes-on, hands-back, copies-out, changes}
+use Rattle.lent.proofs.Stored.{mach, Fit, Answer, passes-on, hands-back, kept, copies-out, lands-change, stores-if, returns-answer}
 use Rattle.lent.proofs.planner_add.Key.{name as #planner-add}
 use Rattle.lent.proofs.planner_add as f
 use Rattle.lent.proofs.planner_add.Statement as stated
@@ -84,16 +85,23 @@ module _ {M : Type 1} (𝓤 : URA M) (H : Heap 𝓤) (A : Atoms 𝓤) (W : Given
     walk =
         qed W ((‵ (flft κ q) ⊛ ‵ ftrue) ∷ ‵ (owns (MutRef (named 0) κ P.the-row ∷ u32 ∷ u32 ∷ u32 ∷ u32 ∷ []) x at) ∷ []) ∵ split ! $ move ! (2 ∷ []) $ fsplit ! $ fsplit3 ! $ drop ! $ keep ! (0 ∷ 1 ∷ 3 ∷ []) $
         enter ! C Λ code.function (vptr b o ∷ vint w32 id ∷ vint w32 start ∷ vint w32 period ∷ vint w32 deadline ∷ []) _ $
-        alloc1 ! (λ l₀. alloc1 ! (λ l₁. alloc1 ! (λ l₂. alloc1 ! (λ l₃. alloc1 ! (λ l₄. alloc1 ! (λ l₅. alloc1 ! (λ l₆. alloc1 ! (λ l₇. alloc0 ! $ params1 ! $
-        pass1 ! (init ! 12 refl (tt, tt)) $ pass1 ! (init ! 10 refl (tt, record { fits = fits .0 })) $ pass1 ! (init ! 8 refl (tt, record { fits = fits .1 .0 })) $ pass1 ! (init ! 6 refl (tt, record { fits = fits .1 .1 .0 })) $ pass1 ! (init ! 4 refl (tt, record { fits = fits .1 .1 .1 .0 })) $ pass0 ! $
-        -- [the locals from _7 down to _0, each with its end; obs; the borrow; the token]
-        move ! (16 ∷ 17 ∷ 18 ∷ 0 ∷ 12 ∷ 2 ∷ 14 ∷ []) $ copies-out ! h b o refl refl (λ is. use0 W (raw (Callee 𝓤 H A at-mem run .pre to-callee)) (passes-on 𝓤 H A W h is (id ∷ start ∷ period ∷ deadline ∷ []) fits) $
-        -- [what is passed; the planner's cell; the open borrow; obs; auth; _7; _1; room for _6; room for _0; the rest in their order]
-        calls-at ! fm (Callee 𝓤 H A at-mem run) known to-callee (and-then ! (load ! (from ! (stop !)) (look ! 5 refl)) (and-then ! (load ! (from ! (stop !)) (look ! 17 refl)) (and-then ! (load ! (from ! (stop !)) (look ! 15 refl)) (and-then ! (load ! (from ! (stop !)) (look ! 13 refl)) (and-then ! (load ! (from ! (stop !)) (look ! 11 refl)) (no-more !)))))) (λ w.
-        use1 W (Answer 𝓤 (lasts callee.ended tt passed) (IsAdd h id start period deadline) w) (id⊢ 𝓤 _) $ move ! (0 ∷ 1 ∷ 2 ∷ 3 ∷ 4 ∷ 6 ∷ 7 ∷ 8 ∷ []) $ changes ! w (IsAdd h id start period deadline) b o refl refl refl (λ r e r-fits.
-        -- [obs; the borrow; the token; room for _1, _6, _0; _7; the rest in their order]
-        forget ! 6 refl $ move ! (5 ∷ 18 ∷ 3 ∷ 17 ∷ 15 ∷ 16 ∷ 13 ∷ 14 ∷ 11 ∷ 12 ∷ 9 ∷ 10 ∷ 4 ∷ 8 ∷ 6 ∷ 7 ∷ []) $
-        forget ! 4 refl $ forget ! 6 refl $ forget ! 8 refl $ forget ! 10 refl $ free1 ! $ free1 ! $ free1 ! $ free1 ! $ free1 ! $ free1 ! $ free1 ! $ free1 ! $ free0 ! $ by ! (exits r e r-fits))))))))))))
+        alloc1 ! (λ l₀. alloc1 ! (λ l₁. alloc1 ! (λ l₂. alloc1 ! (λ l₃. alloc1 ! (λ l₄. alloc1 ! (λ l₅. alloc1 ! (λ l₆. alloc1 ! (λ l₇. alloc1 ! (λ l₈. alloc0 ! $ params1 ! $
+        pass1 ! (init ! 14 refl (tt, tt)) $ pass1 ! (init ! 12 refl (tt, record { fits = fits .0 })) $ pass1 ! (init ! 10 refl (tt, record { fits = fits .1 .0 })) $
+        pass1 ! (init ! 8 refl (tt, record { fits = fits .1 .1 .0 })) $ pass1 ! (init ! 6 refl (tt, record { fits = fits .1 .1 .1 .0 })) $ pass0 ! $
+        -- [the locals from _8 down to _0, each with its end; obs; the borrow; the token]
+        move ! (18 ∷ 19 ∷ 20 ∷ 2 ∷ 14 ∷ 4 ∷ 0 ∷ 16 ∷ []) $ copies-out ! h b o refl refl (λ is.
+        use0 W (raw (Callee 𝓤 H A at-mem run .pre to-callee)) (passes-on 𝓤 H A W h is (id ∷ start ∷ period ∷ deadline ∷ []) fits) $
+        -- [what is passed; the planner's cell; the open borrow; obs; auth; _7; _1; room for _6, _8, _0; the rest in their order]
+        calls-at ! fm (Callee 𝓤 H A at-mem run) known to-callee
+        (and-then ! (load ! (from ! (stop !)) (look ! 5 refl)) (and-then ! (load ! (from ! (stop !)) (look ! 19 refl)) (and-then ! (load ! (from ! (stop !)) (look ! 17 refl))
+        (and-then ! (load ! (from ! (stop !)) (look ! 15 refl)) (and-then ! (load ! (from ! (stop !)) (look ! 13 refl)) (no-more !)))))) (λ w.
+        use1 W (Answer 𝓤 (lasts callee.ended tt passed) (IsAdd h id start period deadline) w) (id⊢ 𝓤 _) $
+        move ! (0 ∷ 1 ∷ 2 ∷ 3 ∷ 4 ∷ 6 ∷ 7 ∷ 8 ∷ 9 ∷ []) $ lands-change ! w (IsAdd h id start period deadline) b o refl (λ r e is′ r-fits.
+        stores-if ! is is′ refl refl refl refl tt (kept e) $ move ! (0 ∷ 1 ∷ 2 ∷ 3 ∷ 4 ∷ 6 ∷ []) $ returns-answer ! refl refl r-fits $
+        -- [obs; the borrow; the token; room for _1, _6, _0, _8; _7; the rest in their order]
+        forget ! 7 refl $ move ! (5 ∷ 20 ∷ 3 ∷ 19 ∷ 17 ∷ 18 ∷ 15 ∷ 16 ∷ 13 ∷ 14 ∷ 11 ∷ 12 ∷ 4 ∷ 10 ∷ 7 ∷ 9 ∷ 6 ∷ 8 ∷ []) $
+        forget ! 4 refl $ forget ! 6 refl $ forget ! 8 refl $ forget ! 10 refl $
+        free1 ! $ free1 ! $ free1 ! $ free1 ! $ free1 ! $ free1 ! $ free1 ! $ free1 ! $ free1 ! $ free0 ! $ by ! (exits r e r-fits)))))))))))))
 
 planner-add-meets : {M : Type 1} (𝓤 : URA M) (H : Heap 𝓤) (A : Atoms 𝓤) → Given 𝓤 H A → (at-mem : Memory → SProp 𝓤) (run : Routine → Fun 𝓤) (𝓣 : Tables 𝓤 H) → Triple 𝓤 (𝓣 .C #callee) (Callee 𝓤 H A at-mem run)
     → Meets 𝓤 H A f.signature (WpFn 𝓤 H (𝓣 .C) (𝓣 .Λ) code.function) (f.spec 𝓤 H A at-mem run)

@@ -8,11 +8,11 @@ use Rattle.lent.proofs.planner_filled.Reads as reads
 use Rattle.lent.proofs.planner_filled.Lts as lts
 use Rattle.planner.proofs.filled.Reads as filled-reads
 
--- src/lib.rt:69:5
+-- src/lib.rt:82:5
 filled-requires : tie.Need-filled-requires
 filled-requires c κs = search needs
 
--- src/lib.rt:65:1
+-- src/lib.rt:79:1
 returns : tie.Need-returns
 returns c = ap length (c .filled .ensures)
 

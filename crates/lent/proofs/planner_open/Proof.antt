@@ -40,7 +40,7 @@ use Rattle.planner.proofs.open as callee
 use Rattle.planner.proofs.open.Symbol as callee-def
 use Rattle.planner.proofs.open.Symbol.{name as #callee}
 use Rattle.planner.proofs.open.Met as callee-thm
-use Rattle.lent.proofs.Stored.{Fit, Answer, passes-numbers, hands-back, opened, changes}
+use Rattle.lent.proofs.Stored.{Fit, Answer, passes-numbers, hands-back, opened, lands-change, stores, returns-answer}
 use Rattle.lent.proofs.planner_open.Key.{name as #planner-open}
 use Rattle.lent.proofs.planner_open as f
 use Rattle.lent.proofs.planner_open.Statement as stated
@@ -90,7 +90,8 @@ module _ {M : Type 1} (𝓤 : URA M) (H : Heap 𝓤) (A : Atoms 𝓤) (W : Given
         move ! (14 ∷ 15 ∷ 16 ∷ 10 ∷ 0 ∷ 12 ∷ []) $ opened ! h b o (λ _. use0 W (raw (Callee 𝓤 H A at-mem run .pre to-callee)) (passes-numbers 𝓤 H A W (slots ∷ frame ∷ gap ∷ last ∷ []) fits) $
         -- [what is passed; the planner's cell; the open borrow; obs; auth; _1; room for _6; room for _0; the rest in their order]
         calls-at ! fm (Callee 𝓤 H A at-mem run) known to-callee (and-then ! (load ! (from ! (stop !)) (look ! 15 refl)) (and-then ! (load ! (from ! (stop !)) (look ! 13 refl)) (and-then ! (load ! (from ! (stop !)) (look ! 11 refl)) (and-then ! (load ! (from ! (stop !)) (look ! 9 refl)) (no-more !))))) (λ w.
-        use1 W (Answer 𝓤 (lasts callee.ended tt passed) (IsOpened slots frame gap last) w) (id⊢ 𝓤 _) $ changes ! w (IsOpened slots frame gap last) b o refl refl refl (λ r e r-fits.
+        use1 W (Answer 𝓤 (lasts callee.ended tt passed) (IsOpened slots frame gap last) w) (id⊢ 𝓤 _) $ lands-change ! w (IsOpened slots frame gap last) b o refl (λ r e is r-fits.
+        stores ! (r .planner) is b o refl refl refl $ returns-answer ! refl refl r-fits $
         -- [obs; the borrow; the token; room for _1, _6, _0; the rest in their order]
         move ! (5 ∷ 16 ∷ 3 ∷ 15 ∷ 13 ∷ 14 ∷ 11 ∷ 12 ∷ 9 ∷ 10 ∷ 7 ∷ 8 ∷ 4 ∷ 6 ∷ []) $
         forget ! 4 refl $ forget ! 6 refl $ forget ! 8 refl $ forget ! 10 refl $ free1 ! $ free1 ! $ free1 ! $ free1 ! $ free1 ! $ free1 ! $ free1 ! $ free0 ! $ by ! (exits r e r-fits)))))))))))

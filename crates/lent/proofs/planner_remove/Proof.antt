@@ -1,4 +1,5 @@
--- `planner_remove` meets its contract: a walk of its MIR, by hand. The lent planner is copied out, `planner::remove` answers for the copy, and the planner that it hands back is stored (`Stored.antt`).
+-- `planner_remove` meets its contract: a walk of its MIR, by hand. The lent planner is copied out, `planner::remove` answers for the copy, and where the answer is 0
+-- the planner that it hands back is stored (`Stored.antt`).
 -- All that the proof knows of `planner::remove` is that it meets its contract. Assumes nothing.
 use mathlib.Core.Path.{refl}
 use Prim.Native.Nat.{ℕ, _<_, _^_}
@@ -40,7 +41,7 @@ use Rattle.planner.proofs.remove as callee
 use Rattle.planner.proofs.remove.Symbol as callee-def
 use Rattle.planner.proofs.remove.Symbol.{name as #callee}
 use Rattle.planner.proofs.remove.Met as callee-thm
-use Rattle.lent.proofs.Stored.{mach, Fit, Answer, passes-on, hands-back, copies-out, changes}
+use Rattle.lent.proofs.Stored.{mach, Fit, Answer, passes-on, hands-back, kept, copies-out, lands-change, stores-if, returns-answer}
 use Rattle.lent.proofs.planner_remove.Key.{name as #planner-remove}
 use Rattle.lent.proofs.planner_remove as f
 use Rattle.lent.proofs.planner_remove.Statement as stated
@@ -84,16 +85,19 @@ module _ {M : Type 1} (𝓤 : URA M) (H : Heap 𝓤) (A : Atoms 𝓤) (W : Given
     walk =
         qed W ((‵ (flft κ q) ⊛ ‵ ftrue) ∷ ‵ (owns (MutRef (named 0) κ P.the-row ∷ u32 ∷ []) x at) ∷ []) ∵ split ! $ move ! (2 ∷ []) $ fsplit ! $ fsplit3 ! $ drop ! $ keep ! (0 ∷ 1 ∷ 3 ∷ []) $
         enter ! C Λ code.function (vptr b o ∷ vint w32 id ∷ []) _ $
-        alloc1 ! (λ l₀. alloc1 ! (λ l₁. alloc1 ! (λ l₂. alloc1 ! (λ l₃. alloc1 ! (λ l₄. alloc0 ! $ params1 ! $
-        pass1 ! (init ! 6 refl (tt, tt)) $ pass1 ! (init ! 4 refl (tt, record { fits = fits .0 })) $ pass0 ! $
-        -- [the locals from _4 down to _0, each with its end; obs; the borrow; the token]
-        move ! (10 ∷ 11 ∷ 12 ∷ 0 ∷ 6 ∷ 2 ∷ 8 ∷ []) $ copies-out ! h b o refl refl (λ is. use0 W (raw (Callee 𝓤 H A at-mem run .pre to-callee)) (passes-on 𝓤 H A W h is (id ∷ []) fits) $
-        -- [what is passed; the planner's cell; the open borrow; obs; auth; _4; _1; room for _3; room for _0; the rest in their order]
-        calls-at ! fm (Callee 𝓤 H A at-mem run) known to-callee (and-then ! (load ! (from ! (stop !)) (look ! 5 refl)) (and-then ! (load ! (from ! (stop !)) (look ! 11 refl)) (no-more !))) (λ w.
-        use1 W (Answer 𝓤 (lasts callee.ended tt passed) (IsRemove h id) w) (id⊢ 𝓤 _) $ move ! (0 ∷ 1 ∷ 2 ∷ 3 ∷ 4 ∷ 6 ∷ 7 ∷ 8 ∷ []) $ changes ! w (IsRemove h id) b o refl refl refl (λ r e r-fits.
-        -- [obs; the borrow; the token; room for _1, _3, _0; _4; the rest in their order]
-        forget ! 6 refl $ move ! (5 ∷ 12 ∷ 3 ∷ 11 ∷ 9 ∷ 10 ∷ 4 ∷ 8 ∷ 6 ∷ 7 ∷ []) $
-        forget ! 4 refl $ free1 ! $ free1 ! $ free1 ! $ free1 ! $ free1 ! $ free0 ! $ by ! (exits r e r-fits)))))))))
+        alloc1 ! (λ l₀. alloc1 ! (λ l₁. alloc1 ! (λ l₂. alloc1 ! (λ l₃. alloc1 ! (λ l₄. alloc1 ! (λ l₅. alloc0 ! $ params1 ! $
+        pass1 ! (init ! 8 refl (tt, tt)) $ pass1 ! (init ! 6 refl (tt, record { fits = fits .0 })) $ pass0 ! $
+        -- [the locals from _5 down to _0, each with its end; obs; the borrow; the token]
+        move ! (12 ∷ 13 ∷ 14 ∷ 2 ∷ 8 ∷ 4 ∷ 0 ∷ 10 ∷ []) $ copies-out ! h b o refl refl (λ is.
+        use0 W (raw (Callee 𝓤 H A at-mem run .pre to-callee)) (passes-on 𝓤 H A W h is (id ∷ []) fits) $
+        -- [what is passed; the planner's cell; the open borrow; obs; auth; _4; _1; room for _3, _5, _0; the rest in their order]
+        calls-at ! fm (Callee 𝓤 H A at-mem run) known to-callee (and-then ! (load ! (from ! (stop !)) (look ! 5 refl)) (and-then ! (load ! (from ! (stop !)) (look ! 13 refl)) (no-more !))) (λ w.
+        use1 W (Answer 𝓤 (lasts callee.ended tt passed) (IsRemove h id) w) (id⊢ 𝓤 _) $
+        move ! (0 ∷ 1 ∷ 2 ∷ 3 ∷ 4 ∷ 6 ∷ 7 ∷ 8 ∷ 9 ∷ []) $ lands-change ! w (IsRemove h id) b o refl (λ r e is′ r-fits.
+        stores-if ! is is′ refl refl refl refl tt (kept e) $ move ! (0 ∷ 1 ∷ 2 ∷ 3 ∷ 4 ∷ 6 ∷ []) $ returns-answer ! refl refl r-fits $
+        -- [obs; the borrow; the token; room for _1, _3, _0, _5; _4; the rest in their order]
+        forget ! 7 refl $ move ! (5 ∷ 14 ∷ 3 ∷ 13 ∷ 11 ∷ 12 ∷ 4 ∷ 10 ∷ 7 ∷ 9 ∷ 6 ∷ 8 ∷ []) $
+        forget ! 4 refl $ free1 ! $ free1 ! $ free1 ! $ free1 ! $ free1 ! $ free1 ! $ free0 ! $ by ! (exits r e r-fits))))))))))
 
 planner-remove-meets : {M : Type 1} (𝓤 : URA M) (H : Heap 𝓤) (A : Atoms 𝓤) → Given 𝓤 H A → (at-mem : Memory → SProp 𝓤) (run : Routine → Fun 𝓤) (𝓣 : Tables 𝓤 H) → Triple 𝓤 (𝓣 .C #callee) (Callee 𝓤 H A at-mem run)
     → Meets 𝓤 H A f.signature (WpFn 𝓤 H (𝓣 .C) (𝓣 .Λ) code.function) (f.spec 𝓤 H A at-mem run)

@@ -1,6 +1,7 @@
--- `planner_round` meets its contract: a walk of its MIR, by hand. The lent planner is copied out, `planner::round` answers for the copy and is given the buffer for good, and the planner that it hands back is stored (`Stored.antt`).
+-- `planner_round` meets its contract: a walk of its MIR, by hand. The lent planner is copied out, `planner::round` answers for the copy and is given the buffer for good,
+-- and where the answer is 0 the planner that it hands back is stored (`Stored.antt`).
 -- All that the proof knows of `planner::round` is that it meets its contract. Assumes nothing.
-use mathlib.Core.Path.{_≡_, refl, ap}
+use mathlib.Core.Path.{_≡_, refl, ap, _∙_}
 use Prim.Native.Nat.{ℕ, _<_, _^_}
 use mathlib.Core.List.{[], _∷_, List}
 use lib.ListN.{length}
@@ -50,7 +51,7 @@ use Rattle.planner.proofs.round.Met as callee-thm
 use Rattle.lent.specs.declared.Held.{Held}
 use Rattle.lent.proofs.Held as T
 use Rattle.lent.proofs.Held.Laws as T′
-use Rattle.lent.proofs.Stored.{mach, IsPlanner, planner-owned, copies-out, stores}
+use Rattle.lent.proofs.Stored.{mach, IsPlanner, planner-owned, copies-out, stores-if}
 use Rattle.lent.proofs.planner_round.Key.{name as #planner-round}
 use Rattle.lent.proofs.planner_round as f
 use Rattle.lent.proofs.planner_round.Statement as stated
@@ -79,6 +80,10 @@ fits-of r w is = let owed = LL.owed R.the-type R′.the-laws r (w ∷ []) is in 
 
 planner-is : (r : Rounded) (w : Val) → Is R.the-row r (w ∷ []) → IsPlanner (r .planner)
 planner-is r w is = LL.owed R.the-type R′.the-laws r (w ∷ []) is .1 .0
+
+-- a refused round hands back the planner that it was given
+kept : {p : Planner} {before after : List ℕ} {r : Rounded} → IsRound p before after r → (r .answer ≡ 0 → ⊥) → r .planner ≡ p
+kept e refused = e .refused (λ z. refused (e .answer ∙ z)) .planner
 
 module _ {M : Type 1} (𝓤 : URA M) (H : Heap 𝓤) (A : Atoms 𝓤) (W : Given 𝓤 H A) (at-mem : Memory → SProp 𝓤) (run : Routine → Fun 𝓤) (κ κ′ : Lft) (q q′ : Share) (b o : ℕ) (γ : GName) (h : Planner) (b′ o′ : ℕ) (γ′ : GName) (ys : List ℕ) (room : Room u16 (length ys)) where
   abbrev buffer : RefT (List ℕ)
@@ -122,28 +127,33 @@ module _ {M : Type 1} (𝓤 : URA M) (H : Heap 𝓤) (A : Atoms 𝓤) (W : Given
         qed W ((‵ (flft κ q) ⊛ ‵ (flft κ′ q′) ⊛ ‵ ftrue) ∷ ‵ (owns (MutRef (named 0) κ P.the-row ∷ MutSlice (named 1) κ′ u16 ∷ []) x at) ∷ []) ∵
         split ! $ move ! (2 ∷ []) $ fsplit ! $ fsplit3 ! $ drop ! $ move ! (2 ∷ []) $ fsplit ! $ keep ! (2 ∷ 3 ∷ 4 ∷ 5 ∷ 0 ∷ []) $
         enter ! C Λ code.function (vptr b o ∷ s ∷ []) _ $
-        alloc1 ! (λ l₀. alloc1 ! (λ l₁. alloc1 ! (λ l₂. alloc1 ! (λ l₃. alloc1 ! (λ l₄. alloc1 ! (λ l₅. alloc1 ! (λ l₆. alloc0 ! $ params1 ! $
-        pass1 ! (init ! 10 refl (tt, tt)) $ pass1 ! (init ! 8 refl (tt, (tt, (record { fits = room .0 }, tt)))) $ pass0 ! $
-        -- [the locals from _6 down to _0, each with its end; obs; the borrow; its token; the buffer's token; the buffer]
-        move ! (14 ∷ 15 ∷ 16 ∷ 4 ∷ 10 ∷ []) $ copies-out ! h b o refl refl (λ is.
+        alloc1 ! (λ l₀. alloc1 ! (λ l₁. alloc1 ! (λ l₂. alloc1 ! (λ l₃. alloc1 ! (λ l₄. alloc1 ! (λ l₅. alloc1 ! (λ l₆. alloc1 ! (λ l₇. alloc0 ! $ params1 ! $
+        pass1 ! (init ! 12 refl (tt, tt)) $ pass1 ! (init ! 10 refl (tt, (tt, (record { fits = room .0 }, tt)))) $ pass0 ! $
+        -- [the locals from _7 down to _0, each with its end; obs; the borrow; its token; the buffer's token; the buffer]
+        move ! (16 ∷ 17 ∷ 18 ∷ 6 ∷ 12 ∷ []) $ copies-out ! h b o refl refl (λ is.
         -- [the planner's cell; the open borrow; obs; auth; _4; _1; the rest in their order]
-        assigns ! (addr ! (from ! (fld ! refl (hop ! (look-in ! 13 (sub ! 0 refl (whole !))) (stop !))))) (from ! (stop !)) (init ! 8 refl (tt, tt)) $
-        assigns ! (agg ! (and-then ! (load ! (from ! (stop !)) (look ! 8 refl)) (and-then ! (load ! (from ! (fld ! refl (stop !))) (look-in ! 13 (sub ! 1 refl (whole !)))) (no-more !)))) (from ! (stop !)) (init ! 6 refl (tt, (tt, (record { fits = room .0 }, tt)))) $
-        move ! (18 ∷ 19 ∷ []) $ use2 W (raw (Callee 𝓤 H A at-mem run .pre to-callee)) (goes is) $
-        calls-at ! fm (Callee 𝓤 H A at-mem run) known to-callee (and-then ! (load ! (from ! (stop !)) (look ! 5 refl)) (and-then ! (load ! (from ! (stop !)) (look ! 7 refl)) (no-more !))) (λ w.
+        assigns ! (addr ! (from ! (fld ! refl (hop ! (look-in ! 15 (sub ! 0 refl (whole !))) (stop !))))) (from ! (stop !)) (init ! 10 refl (tt, tt)) $
+        assigns ! (agg ! (and-then ! (load ! (from ! (stop !)) (look ! 10 refl))
+        (and-then ! (load ! (from ! (fld ! refl (stop !))) (look-in ! 15 (sub ! 1 refl (whole !)))) (no-more !)))) (from ! (stop !)) (init ! 8 refl (tt, (tt, (record { fits = room .0 }, tt)))) $
+        move ! (20 ∷ 21 ∷ []) $ use2 W (raw (Callee 𝓤 H A at-mem run .pre to-callee)) (goes is) $
+        calls-at ! fm (Callee 𝓤 H A at-mem run) known to-callee (and-then ! (load ! (from ! (stop !)) (look ! 5 refl)) (and-then ! (load ! (from ! (stop !)) (look ! 9 refl)) (no-more !))) (λ w.
         use1 W (later (some (λ (r : Rounded). ((‵ (flft κ′ q′) ⊛ ‵ ftrue) ⊛ ‵ (R.the-row .own r (w ∷ []))) ⊛ some (λ (ws : Lasts callee.ended (κ′, tt) passed). ‵ (lasts callee.ended (κ′, tt) passed ws) ⊛ raw (fact 𝓤 (IsRound h ys (ws .1 .0) r)))))) (id⊢ 𝓤 _) $
         await ! tt $ pick ! (λ r. split ! $ split ! $ move ! (1 ∷ []) $ facts ! R.the-row (Is R.the-row) (shows 𝓤 H A R.the-row) r (w ∷ []) (λ at-w. move ! (1 ∷ []) $ pick ! (λ ws. split ! $ move ! (1 ∷ []) $ heard ! (IsRound h ys (ws .1 .0) r) (λ e.
         -- what is said of the buffer's last list
         fsplit ! $ drop ! $ fsplit ! $ fsplit ! $ move ! (1 ∷ []) $ feqL ! (λ l.
         -- [the last list; …; the buffer's token; the planner's cell; the open borrow; obs; auth; _4; _1; the rest in their order]
-        land ! (from ! (stop !)) (init ! 14 refl (LL.lawful R.the-type R′.the-laws 𝓤 H A W .typed r _ at-w .0)) $ rewrite ! 14 (λ (u : Val). ‵ (fat fullShare R′.mir l₃ 0 u)) (ap only (LL.tells R.the-type R′.the-laws r (w ∷ []) at-w)) refl $
-        move ! (3 ∷ 4 ∷ 5 ∷ 6 ∷ 8 ∷ 14 ∷ []) $ stores ! (r .planner) (planner-is r w at-w) b o refl refl refl $
-        -- [obs; the borrow; its token; _1; _3; the last list; …; the buffer's token; _4; the rest in their order]
-        assigns ! (agg ! (and-then ! (load ! (from ! (fld ! refl (stop !))) (look-in ! 4 (sub ! 0 refl (whole !)))) (and-then ! (load ! (from ! (fld ! refl (stop !))) (look-in ! 4 (sub ! 2 refl (whole !)))) (and-then ! (load ! (from ! (fld ! refl (stop !))) (look-in ! 4 (sub ! 3 refl (whole !)))) (no-more !))))) (from ! (stop !))
-        (init ! 18 refl (tt, (record { fits = fits-of r w at-w .0 }, (record { fits = fits-of r w at-w .1 }, (record { fits = fits-of r w at-w .2 }, tt))))) $
-        returns ! (look ! 18 refl) $ move ! (18 ∷ 19 ∷ 3 ∷ 17 ∷ 15 ∷ 16 ∷ 4 ∷ 14 ∷ 8 ∷ 13 ∷ 11 ∷ 12 ∷ 9 ∷ 10 ∷ []) $
+        land ! (from ! (stop !)) (init ! 16 refl (LL.lawful R.the-type R′.the-laws 𝓤 H A W .typed r _ at-w .0)) $
+        rewrite ! 16 (λ (u : Val). ‵ (fat fullShare R′.mir l₃ 0 u)) (ap only (LL.tells R.the-type R′.the-laws r (w ∷ []) at-w)) refl $
+        move ! (3 ∷ 4 ∷ 5 ∷ 6 ∷ 8 ∷ 16 ∷ 9 ∷ []) $ stores-if ! is (planner-is r w at-w) refl refl refl refl tt (kept e) $
+        -- [obs; the borrow; its token; _1; _3; room for _7; the last list; …; the buffer's token; _4; the rest in their order]
+        assigns ! (agg ! (and-then ! (load ! (from ! (fld ! refl (stop !))) (look-in ! 4 (sub ! 0 refl (whole !))))
+        (and-then ! (load ! (from ! (fld ! refl (stop !))) (look-in ! 4 (sub ! 2 refl (whole !))))
+        (and-then ! (load ! (from ! (fld ! refl (stop !))) (look-in ! 4 (sub ! 3 refl (whole !)))) (no-more !))))) (from ! (stop !))
+        (init ! 20 refl (tt, (record { fits = fits-of r w at-w .0 }, (record { fits = fits-of r w at-w .1 }, (record { fits = fits-of r w at-w .2 }, tt))))) $
+        returns ! (look ! 20 refl) $ move ! (20 ∷ 21 ∷ 3 ∷ 19 ∷ 17 ∷ 18 ∷ 4 ∷ 16 ∷ 9 ∷ 15 ∷ 13 ∷ 14 ∷ 11 ∷ 12 ∷ 5 ∷ 10 ∷ []) $
         forget ! 0 refl $ forget ! 2 refl $ forget ! 4 refl $ forget ! 6 refl $ forget ! 8 refl $ forget ! 10 refl $ forget ! 12 refl $
-        free1 ! $ free1 ! $ free1 ! $ free1 ! $ free1 ! $ free1 ! $ free1 ! $ free0 ! $ keep ! (0 ∷ 1 ∷ 2 ∷ 3 ∷ 5 ∷ []) $ by ! (exits r (ws .1 .0) e (fits-of r w at-w) l)))))))))))))))
+        free1 ! $ free1 ! $ free1 ! $ free1 ! $ free1 ! $ free1 ! $ free1 ! $ free1 ! $ free0 ! $
+        keep ! (0 ∷ 1 ∷ 2 ∷ 3 ∷ 5 ∷ []) $ by ! (exits r (ws .1 .0) e (fits-of r w at-w) l))))))))))))))))
 
 planner-round-meets : {M : Type 1} (𝓤 : URA M) (H : Heap 𝓤) (A : Atoms 𝓤) → Given 𝓤 H A → (at-mem : Memory → SProp 𝓤) (run : Routine → Fun 𝓤) (𝓣 : Tables 𝓤 H) → Triple 𝓤 (𝓣 .C #callee) (Callee 𝓤 H A at-mem run)
     → Meets 𝓤 H A f.signature (WpFn 𝓤 H (𝓣 .C) (𝓣 .Λ) code.function) (f.spec 𝓤 H A at-mem run)

@@ -1,18 +1,18 @@
 // What a proved call is held to: the same full test of the same bytes, the same answers, the same bytes left, by hand in unchecked Rust.
-// Every condition of a sound planner is tested, on any bytes whatever; what is left out is only what the other tests imply:
-//   - if all links forward are right and matched by the link back, so are all links back (next is then one to one on the nodes);
-//   - a bucket whose head is its own neighbour both ways has an empty list, and the lists of the others are walked;
-//   - two places with one id would be filed under one due time, so in one bucket, and ids rise there;
-//   - a table that keeps both rules with one stream more keeps them without it.
-// The busy length is found by going up to the least fixed point, with 64 divisions for each step; due times are counted in an array of lengths.
+// Every condition of a sound planner is tested, on any bytes whatever:
+//   - the streams are met in order of ids, and each must be the next entry in its bucket's list, under its due time, linked back; then each
+//     list must end there; so ids, keys, order, buckets and links are compared in one go;
+//   - as many places hold an entry as there are streams, so no other place does;
+//   - all other heads are their own neighbours both ways, counted eight at a time;
+//   - a table that keeps both rules with one stream more keeps them without it, so that an add that is accepted tests them once.
+// The busy length is found by going up to the least fixed point, with a division for each stream and step; due times are counted in an
+// array of lengths.
 use super::proved::{Held, Planner, Stream};
 use super::{mixed, Host, Offer};
 use std::arch::x86_64::*;
 use std::mem::MaybeUninit;
 
 const BUCKETS: usize = 480;
-const FREE: u32 = u32::MAX;
-const NO_ROW: u8 = 255;
 
 fn get<T: Copy>(of: &[T], i: usize) -> T {
     debug_assert!(i < of.len());
@@ -27,7 +27,7 @@ fn set<T>(of: &mut [T], i: usize, value: T) {
 // Columns of the table, eight streams a step. Times are less now; rows past the last have times above every length.
 #[repr(align(16))]
 struct Columns {
-    ids: [i32; 64],
+    ids: [u16; 64],
     periods: [f32; 64],
     deadlines: [i16; 64],
     releases: [i16; 64],
@@ -86,8 +86,7 @@ unsafe fn eight(s: *const Stream, i: usize, before: __m128i, b: Bounds, c: &mut 
     let x = four(s, before, b);
     let y = four(s.add(4), x.ids, b);
     *good = _mm_and_si128(*good, _mm_and_si128(x.good, y.good));
-    _mm_store_si128(c.ids.as_mut_ptr().add(i).cast(), x.ids);
-    _mm_store_si128(c.ids.as_mut_ptr().add(i + 4).cast(), y.ids);
+    _mm_store_si128(c.ids.as_mut_ptr().add(i).cast(), _mm_packs_epi32(x.ids, y.ids));
     _mm_store_ps(c.periods.as_mut_ptr().add(i), x.periods);
     _mm_store_ps(c.periods.as_mut_ptr().add(i + 4), y.periods);
     _mm_store_si128(c.deadlines.as_mut_ptr().add(i).cast(), _mm_packs_epi32(x.deadlines, y.deadlines));
@@ -125,10 +124,11 @@ unsafe fn columns(p: &Planner, c: &mut Columns) -> Option<usize> {
         for k in p.count..full + 8 {
             c.periods[k] = f32::INFINITY;
             c.deadlines[k] = FAR;
+            c.releases[k] = FAR;
             c.dues[k] = FAR;
         }
     }
-    if _mm_movemask_epi8(good) != 0xffff || (p.count > 0 && get(&c.ids, p.count - 1) > 32767) {
+    if _mm_movemask_epi8(good) != 0xffff || (p.count > 0 && get(&p.streams, p.count - 1).id > 32767) {
         return None;
     }
     least = _mm_min_epi16(least, _mm_srli_si128(least, 8));
@@ -136,118 +136,125 @@ unsafe fn columns(p: &Planner, c: &mut Columns) -> Option<usize> {
     Some((_mm_extract_epi16(least, 0).min(_mm_extract_epi16(least, 1))) as usize)
 }
 
-// What the queue's places hold: the row of each, and its bucket (counted on from that of the first due time) and id in one number.
-struct Places {
-    rows: [u8; 64],
-    codes: [u32; 64],
+#[repr(align(16))]
+struct Nodes([u16; BUCKETS]);
+
+static HEADS: Nodes = {
+    let mut nodes = [0; BUCKETS];
+    let mut b = 0;
+    while b < BUCKETS {
+        nodes[b] = 64 + b as u16;
+        b += 1;
+    }
+    Nodes(nodes)
+};
+
+// How many of the 480 heads are their own neighbours both ways.
+#[inline(always)]
+unsafe fn heads_alone(p: &Planner) -> usize {
+    let (next, prev) = (p.next.as_ptr().add(64), p.prev.as_ptr().add(64));
+    let mut n = _mm_setzero_si128();
+    for k in 0..BUCKETS / 8 {
+        let own = _mm_load_si128(HEADS.0.as_ptr().add(8 * k).cast());
+        let on = _mm_cmpeq_epi16(_mm_loadu_si128(next.add(8 * k).cast()), own);
+        let back = _mm_cmpeq_epi16(_mm_loadu_si128(prev.add(8 * k).cast()), own);
+        n = _mm_sub_epi16(n, _mm_and_si128(on, back));
+    }
+    sum_of(n)
 }
 
-// Whether the places hold as many entries as the table has streams, each a stream's id under its due time. A table of 256 bytes by the low
-// byte of the id finds the row.
+// How many places hold an entry.
 #[inline(always)]
-fn places(p: &Planner, c: &Columns, first: usize, q: &mut Places) -> bool {
-    let mut row_of = [NO_ROW; 256];
-    for i in 0..p.count {
-        let mut h = get(&c.ids, i) as u8;
-        while get(&row_of, h as usize) != NO_ROW {
-            h = h.wrapping_add(1);
-        }
-        set(&mut row_of, h as usize, i as u8);
+unsafe fn places_filled(p: &Planner) -> usize {
+    let mut n = _mm_set1_epi16(8);
+    for k in 0..8 {
+        n = _mm_add_epi16(n, _mm_cmpeq_epi16(_mm_loadu_si128(p.ids.as_ptr().add(8 * k).cast()), _mm_setzero_si128()));
     }
+    sum_of(n)
+}
+
+#[inline(always)]
+unsafe fn sum_of(n: __m128i) -> usize {
+    let pairs = _mm_madd_epi16(n, _mm_set1_epi16(1));
+    let pairs = _mm_add_epi32(pairs, _mm_srli_si128(pairs, 8));
+    _mm_cvtsi128_si32(_mm_add_epi32(pairs, _mm_srli_si128(pairs, 4))) as usize
+}
+
+// The rows whose packets are released by `start`, less now.
+#[inline(always)]
+unsafe fn released(c: &Columns, count: usize, start: i16) -> u64 {
+    let mut rows = 0;
+    let mut i = 0;
+    while i < count {
+        let late = _mm_cmpgt_epi16(_mm_load_si128(c.releases.as_ptr().add(i).cast()), _mm_set1_epi16(start));
+        rows |= u64::from(!_mm_movemask_epi8(_mm_packs_epi16(late, late)) as u8) << i;
+        i += 8;
+    }
+    rows
+}
+
+// Whether the queue's lists hold just the streams, in order, with all links right; `places` gets the place of each row.
+#[inline(never)]
+fn is_filed(p: &Planner, c: &Columns, places: &mut [u8; 64]) -> bool {
+    // the node that each bucket's list has been followed to, and the head of each row's bucket
+    let mut ends = HEADS.0;
+    let mut buckets: [u16; 64] = scratch();
     let now = p.last + 1;
-    let mut n = 0;
-    for x in 0..64 {
-        let id = get(&p.ids, x);
-        if id == 0 {
-            set(&mut q.codes, x, FREE);
-            continue;
-        }
-        let mut h = id as u8;
-        let row = loop {
-            let row = get(&row_of, h as usize);
-            if row == NO_ROW {
-                return false;
-            }
-            if get(&c.ids, row as usize) == i32::from(id) {
-                break row;
-            }
-            h = h.wrapping_add(1);
-        };
-        let due = get(&c.dues, row as usize) as u32;
-        if get(&p.keys, x) != now + due {
+    let base = now as usize % BUCKETS;
+    let mut lists = 0;
+    for row in 0..p.count {
+        let due = get(&c.dues, row) as usize;
+        let past = base + due;
+        let bucket = if past >= BUCKETS { past - BUCKETS } else { past };
+        let at = get(&ends, bucket);
+        let x = get(&p.next, at as usize);
+        let place = x as usize;
+        if place >= 64 || get(&p.ids, place) != get(&c.ids, row) || get(&p.keys, place) != now + due as u32 || get(&p.prev, place) != at {
             return false;
         }
-        set(&mut q.rows, x, row);
-        set(&mut q.codes, x, ((due - first as u32) << 16) | u32::from(id));
+        lists += usize::from(at >= 64);
+        set(&mut ends, bucket, x);
+        set(&mut buckets, row, bucket as u16);
+        set(places, row, x as u8);
+    }
+    for row in 0..p.count {
+        let bucket = get(&buckets, row) as usize;
+        let end = get(&ends, bucket);
+        if get(&p.next, end as usize) as usize != 64 + bucket || get(&p.prev, 64 + bucket) != end {
+            return false;
+        }
+    }
+    unsafe { places_filled(p) == p.count && heads_alone(p) == BUCKETS - lists }
+}
+
+// The first rows of a round by due time and id, as many as there are slots at most; how many. Due time and row are one number, and a row's
+// place is how many numbers are less.
+#[inline(always)]
+unsafe fn chosen(c: &Columns, count: usize, slots: usize, start: i16, rows: &mut [u8; 64]) -> usize {
+    #[repr(align(16))]
+    struct Ranks([i16; 72]);
+    let mut ranks: Ranks = scratch();
+    let mut left = released(c, count, start);
+    let mut n = 0;
+    while left != 0 {
+        let row = left.trailing_zeros() as usize;
+        left &= left - 1;
+        set(&mut ranks.0, n, get(&c.dues, row) * 64 + row as i16);
         n += 1;
     }
-    n == p.count
-}
-
-// A bit for each bucket whose head is not its own neighbour both ways.
-#[inline(always)]
-unsafe fn lists(p: &Planner) -> [u64; 8] {
-    let mut bits = [0u64; 8];
-    let halves = bits.as_mut_ptr().cast::<u16>();
-    let (next, prev) = (p.next.as_ptr().add(64), p.prev.as_ptr().add(64));
-    let mut low = _mm_setr_epi16(64, 65, 66, 67, 68, 69, 70, 71);
-    let step = _mm_set1_epi16(8);
-    for k in 0..BUCKETS / 16 {
-        let high = _mm_add_epi16(low, step);
-        let at = 16 * k;
-        let a = _mm_cmpeq_epi16(_mm_loadu_si128(next.add(at).cast()), low);
-        let b = _mm_cmpeq_epi16(_mm_loadu_si128(prev.add(at).cast()), low);
-        let c = _mm_cmpeq_epi16(_mm_loadu_si128(next.add(at + 8).cast()), high);
-        let d = _mm_cmpeq_epi16(_mm_loadu_si128(prev.add(at + 8).cast()), high);
-        let alone = _mm_packs_epi16(_mm_and_si128(a, b), _mm_and_si128(c, d));
-        *halves.add(k) = !(_mm_movemask_epi8(alone) as u16);
-        low = _mm_add_epi16(high, step);
-    }
-    bits
-}
-
-// The lists in order from the first due time's bucket on, each tested on the way; `meet` gets every place. Codes rise along a list by less
-// than 32,768, which says that the next entry is filed, in the same bucket and has a greater id, so that no walk goes on for ever.
-#[inline(always)]
-fn walk(p: &Planner, q: &Places, first: usize, mut meet: impl FnMut(usize)) -> bool {
-    let bits = unsafe { lists(p) };
-    let base = (p.last as usize + 1 + first) % BUCKETS;
-    let mut met = 0;
-    // the words from that of the bucket on, its own word twice: the upper part first, the lower part last
-    let (word, within) = (base / 64, base % 64);
-    for k in 0..=8 {
-        let w = (word + k) % 8;
-        let mut left = get(&bits, w);
-        if k == 0 {
-            left &= u64::MAX << within;
-        } else if k == 8 {
-            left &= !(u64::MAX << within);
+    _mm_storeu_si128(ranks.0.as_mut_ptr().add(n).cast(), _mm_set1_epi16(i16::MAX));
+    for k in 0..n {
+        let own = get(&ranks.0, k);
+        let all = _mm_set1_epi16(own);
+        let mut less = _mm_setzero_si128();
+        let mut i = 0;
+        while i < n {
+            less = _mm_sub_epi16(less, _mm_cmpgt_epi16(all, _mm_load_si128(ranks.0.as_ptr().add(i).cast())));
+            i += 8;
         }
-        while left != 0 {
-            let bucket = 64 * w + left.trailing_zeros() as usize;
-            left &= left - 1;
-            let on = if bucket >= base { bucket - base } else { bucket + BUCKETS - base };
-            let head = 64 + bucket;
-            let mut at = head;
-            let mut low = (on as u32) << 16;
-            let mut x = get(&p.next, head) as usize;
-            while x < 64 {
-                let code = get(&q.codes, x);
-                if code.wrapping_sub(low).wrapping_sub(1) >= 32767 || get(&p.prev, x) as usize != at {
-                    return false;
-                }
-                meet(x);
-                met += 1;
-                low = code;
-                at = x;
-                x = get(&p.next, x) as usize;
-            }
-            if x != head || get(&p.prev, head) as usize != at {
-                return false;
-            }
-        }
+        set(rows, sum_of(less), own as u8 & 63);
     }
-    met == p.count
+    n.min(slots)
 }
 
 // The busy length: the least t by which all that is released before it, from a common start, can be sent. None above the frame.
@@ -343,15 +350,14 @@ fn lazy_start(streams: &[Stream; 64], count: usize, slots: u32, frame: u32, gap:
     Some(start as u32)
 }
 
-// Everything of the test but the two rules and the walk.
+// Numbers, count and table: the first due time less now if they are in range.
 #[inline(always)]
-fn in_range(p: &Planner, c: &mut Columns, q: &mut Places) -> Option<usize> {
+fn in_range(p: &Planner, c: &mut Columns) -> Option<usize> {
     let ranges = p.slots.wrapping_sub(1) < 64 && p.frame.wrapping_sub(1) < 5040 && p.gap.wrapping_sub(1) < 255 && p.last <= 1_000_000_000;
     if !ranges || p.count > 64 {
         return None;
     }
-    let first = unsafe { columns(p, c) }?;
-    places(p, c, first, q).then_some(first)
+    unsafe { columns(p, c) }
 }
 
 fn link_before(p: &mut Planner, x: usize, n: usize) {
@@ -390,20 +396,16 @@ impl Limit {
     pub fn hold(&mut self, buffer: &mut [u16]) -> Held {
         let refused = |answer| Held { answer, start: 0, n: 0 };
         let p = &mut self.0;
-        let (mut c, mut q): (Columns, Places) = (scratch(), scratch());
-        let Some(first) = in_range(p, &mut c, &mut q) else { return refused(5) };
+        let mut c: Columns = scratch();
+        let Some(first) = in_range(p, &mut c) else { return refused(5) };
         let Some(start) = lazy_start(&p.streams, p.count, p.slots, p.frame, p.gap, &c, first) else { return refused(5) };
-        let mut chosen: [u8; 65] = scratch();
-        let (mut n, slots) = (0, p.slots as usize);
-        let meet = |x: usize| {
-            // a place that does not ride is written too, and the next one over it
-            set(&mut chosen, n, x as u8);
-            let rides = i32::from(get(&c.releases, get(&q.rows, x) as usize)) <= start as i32;
-            n += usize::from(rides && n < slots);
-        };
-        if !walk(p, &q, first, meet) {
+        let mut places: [u8; 64] = scratch();
+        if !is_filed(p, &c, &mut places) {
             return refused(5);
         }
+        let slots = p.slots as usize;
+        let mut rows: [u8; 64] = scratch();
+        let n = unsafe { chosen(&c, p.count, slots, start as i16, &mut rows) };
         let start = p.last + 1 + start;
         if p.count == 0 {
             return refused(15);
@@ -414,21 +416,17 @@ impl Limit {
         if start > 1_000_000_000 {
             return refused(17);
         }
-        let base = (p.last as usize + 1 + first) % BUCKETS;
         for k in 0..n {
-            let x = get(&chosen, k) as usize;
+            let row = get(&rows, k) as usize;
+            let x = get(&places, row) as usize;
             let id = get(&p.ids, x);
             set(buffer, k, id);
-            let stream = unsafe { p.streams.get_unchecked_mut(get(&q.rows, x) as usize) };
-            let period = stream.period;
-            stream.release += period;
-            unsafe { *p.keys.get_unchecked_mut(x) += period };
-            let mut bucket = base + (get(&q.codes, x) >> 16) as usize + period as usize;
-            while bucket >= BUCKETS {
-                bucket -= BUCKETS;
-            }
+            let stream = unsafe { p.streams.get_unchecked_mut(row) };
+            stream.release += stream.period;
+            let key = stream.release + stream.deadline;
+            set(&mut p.keys, x, key);
             unlink(p, x);
-            let n = position(p, 64 + bucket, id);
+            let n = position(p, 64 + key as usize % BUCKETS, id);
             link_before(p, x, n);
         }
         p.last = start;
@@ -488,9 +486,9 @@ impl Host for Limit {
 
     fn add(&mut self, o: Offer) -> u32 {
         let p = &self.0;
-        let (mut c, mut q): (Columns, Places) = (scratch(), scratch());
-        let Some(first) = in_range(p, &mut c, &mut q) else { return 5 };
-        if !walk(p, &q, first, |_| {}) {
+        let mut c: Columns = scratch();
+        let Some(first) = in_range(p, &mut c) else { return 5 };
+        if !is_filed(p, &c, &mut scratch()) {
             return 5;
         }
         let rules = |streams: &[Stream; 64], count, c: &Columns, first| lazy_start(streams, count, p.slots, p.frame, p.gap, c, first).is_some();
@@ -528,9 +526,9 @@ impl Host for Limit {
 
     fn remove(&mut self, id: u32) -> u32 {
         let p = &self.0;
-        let (mut c, mut q): (Columns, Places) = (scratch(), scratch());
-        let Some(first) = in_range(p, &mut c, &mut q) else { return 5 };
-        if !walk(p, &q, first, |_| {}) || lazy_start(&p.streams, p.count, p.slots, p.frame, p.gap, &c, first).is_none() {
+        let mut c: Columns = scratch();
+        let Some(first) = in_range(p, &mut c) else { return 5 };
+        if !is_filed(p, &c, &mut scratch()) || lazy_start(&p.streams, p.count, p.slots, p.frame, p.gap, &c, first).is_none() {
             return 5;
         }
         let Some(row) = p.streams[..p.count].iter().position(|s| s.id == id) else { return 14 };

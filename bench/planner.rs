@@ -9,7 +9,7 @@
 //   growth           rounds where one of streams, slots, busy length and superframe is varied
 //   tables           the tables' periods
 //   check            random calls and damaged planners, the proved calls beside `limit`
-//   TABLE CALL TURNS HOST   runs that host's calls alone, for counting instructions
+//   TABLE count TURNS   runs each call alone, for counting instructions
 use std::hint::black_box;
 use std::time::{Duration, Instant};
 
@@ -204,36 +204,42 @@ fn growth() {
     }
 }
 
-// One call, under a name that an instruction counter can be told.
+// One call, under a name that an instruction counter can be told; and the end of a run of calls.
 #[inline(never)]
 fn counted<H: Host>(host: &mut H, call: Call) -> u32 {
     call.of(host)
 }
 
-fn count<H: Host>(host: &H, call: Call, turns: u32) -> u32 {
+#[inline(never)]
+#[no_mangle]
+extern "C" fn run_ended() {
+    black_box(());
+}
+
+fn count<H: Host>(host: &H, name: &str, case: &Case, turns: u32) {
     let mut going = host.clone();
-    (0..turns).fold(0u32, |sum, _| {
-        if !matches!(call, Call::Round) {
+    let mut sum = 0u32;
+    for _ in 0..turns {
+        if !matches!(case.call, Call::Round) {
             going = black_box(host.clone());
         }
-        sum.wrapping_add(counted(&mut going, call))
-    })
+        sum = sum.wrapping_add(counted(&mut going, case.call));
+    }
+    black_box(sum);
+    println!("{name} {}", case.name);
+    run_ended();
 }
 
 fn main() {
     let words: Vec<String> = std::env::args().skip(1).collect();
-    if let [table, call, turns, host] = &words[..] {
-        let cases = tables::all(Some(table)).first().expect("a table").cases(Some(call));
-        let case = cases.iter().find(|c| c.name == *call).expect("a call");
-        let (call, turns) = (case.call, turns.parse().expect("turns"));
-        let sum = match host.as_str() {
-            "proved" => count(&case.hosts.proved, call, turns),
-            "limit" => count(&case.hosts.limit, call, turns),
-            "fast" => count(&case.hosts.fast, call, turns),
-            "plain" => count(&case.hosts.plain, call, turns),
-            _ => panic!("no such host"),
-        };
-        println!("{sum}");
+    if let [table, _, turns] = &words[..] {
+        let turns = turns.parse().expect("turns");
+        for case in &tables::all(Some(table)).first().expect("a table").cases() {
+            count(&case.hosts.proved, "proved", case, turns);
+            count(&case.hosts.limit, "limit", case, turns);
+            count(&case.hosts.fast, "fast", case, turns);
+            count(&case.hosts.plain, "plain", case, turns);
+        }
         return;
     }
     match words.first().map(String::as_str) {
@@ -252,7 +258,7 @@ fn main() {
         "table", "busy", "call", "proved", "limit", "fast", "plain", "analytic", "/limit", "/fast", "/plain", "/analytic"
     );
     for table in &tables::all(words.first().map(String::as_str)) {
-        for case in &table.cases(None) {
+        for case in &table.cases() {
             measure(&table.name, table.busy, case);
         }
     }

@@ -227,34 +227,73 @@ fn is_filed(p: &Planner, c: &Columns, places: &mut [u8; 64]) -> bool {
     unsafe { places_filled(p) == p.count && heads_alone(p) == BUCKETS - lists }
 }
 
-// The first rows of a round by due time and id, as many as there are slots at most; how many. Due time and row are one number, and a row's
-// place is how many numbers are less.
+// The rows of a round, by due time and id, as many as there are slots at most; how many.
 #[inline(always)]
 unsafe fn chosen(c: &Columns, count: usize, slots: usize, start: i16, rows: &mut [u8; 64]) -> usize {
-    #[repr(align(16))]
-    struct Ranks([i16; 72]);
-    let mut ranks: Ranks = scratch();
-    let mut left = released(c, count, start);
+    let left = released(c, count, start);
+    let n = chosen_of_few(c, left, rows);
+    if n <= 8 {
+        n.min(slots)
+    } else {
+        chosen_of_many(c, left, slots, rows)
+    }
+}
+
+// Of eight rows at most, or 9: due time and row are one number, and a row's place is how many of the numbers are less.
+#[inline(always)]
+unsafe fn chosen_of_few(c: &Columns, mut left: u64, rows: &mut [u8; 64]) -> usize {
+    let mut numbers = [i16::MAX; 8];
     let mut n = 0;
     while left != 0 {
+        if n == 8 {
+            return 9;
+        }
         let row = left.trailing_zeros() as usize;
         left &= left - 1;
-        set(&mut ranks.0, n, get(&c.dues, row) * 64 + row as i16);
+        set(&mut numbers, n, get(&c.dues, row) * 64 + row as i16);
         n += 1;
     }
-    _mm_storeu_si128(ranks.0.as_mut_ptr().add(n).cast(), _mm_set1_epi16(i16::MAX));
-    for k in 0..n {
-        let own = get(&ranks.0, k);
-        let all = _mm_set1_epi16(own);
-        let mut less = _mm_setzero_si128();
-        let mut i = 0;
-        while i < n {
-            less = _mm_sub_epi16(less, _mm_cmpgt_epi16(all, _mm_load_si128(ranks.0.as_ptr().add(i).cast())));
-            i += 8;
-        }
-        set(rows, sum_of(less), own as u8 & 63);
+    let all = _mm_loadu_si128(numbers.as_ptr().cast());
+    for own in &numbers[..n] {
+        set(rows, sum_of(_mm_srli_epi16(_mm_cmpgt_epi16(_mm_set1_epi16(*own), all), 15)), *own as u8 & 63);
     }
-    n.min(slots)
+    n
+}
+
+// A list for each due time, by id; the lists that are not empty are found eight at a time.
+#[inline(never)]
+fn chosen_of_many(c: &Columns, mut left: u64, slots: usize, rows: &mut [u8; 64]) -> usize {
+    const NONE: u8 = 255;
+    let mut heads = [u64::MAX; BUCKETS / 8];
+    let mut next: [u8; 64] = scratch();
+    let bytes: &mut [u8; BUCKETS] = unsafe { &mut *heads.as_mut_ptr().cast() };
+    let total = left.count_ones() as usize;
+    while left != 0 {
+        let row = 63 - left.leading_zeros() as usize;
+        left ^= 1 << row;
+        let due = get(&c.dues, row) as usize;
+        set(&mut next, row, get(bytes, due));
+        set(bytes, due, row as u8);
+    }
+    let wanted = slots.min(total);
+    let (mut n, mut word) = (0, 0);
+    loop {
+        let mut filled = !get(&heads, word) & 0x8080_8080_8080_8080;
+        while filled != 0 {
+            let due = 8 * word + filled.trailing_zeros() as usize / 8;
+            filled &= filled - 1;
+            let mut row = get(unsafe { &*heads.as_ptr().cast::<[u8; BUCKETS]>() }, due);
+            while row != NONE {
+                set(rows, n, row);
+                n += 1;
+                if n == wanted {
+                    return n;
+                }
+                row = get(&next, row as usize);
+            }
+        }
+        word += 1;
+    }
 }
 
 // The busy length: the least t by which all that is released before it, from a common start, can be sent. None above the frame.

@@ -296,30 +296,41 @@ fn chosen_of_many(c: &Columns, mut left: u64, slots: usize, rows: &mut [u8; 64])
     }
 }
 
-// The busy length: the least t by which all that is released before it, from a common start, can be sent. None above the frame.
+// The sum over the streams of how often a period fits into t.
+#[inline(always)]
+unsafe fn periods_in(t: u32, count: usize, c: &Columns) -> u32 {
+    let t = _mm_set1_ps(t as f32);
+    let mut sum = _mm_setzero_si128();
+    let mut i = 0;
+    while i < count {
+        let p = c.periods.as_ptr().add(i);
+        let (a, b) = (_mm_div_ps(t, _mm_load_ps(p)), _mm_div_ps(t, _mm_load_ps(p.add(4))));
+        sum = _mm_add_epi32(sum, _mm_add_epi32(_mm_cvttps_epi32(a), _mm_cvttps_epi32(b)));
+        i += 8;
+    }
+    sum = _mm_add_epi32(sum, _mm_srli_si128(sum, 8));
+    _mm_cvtsi128_si32(_mm_add_epi32(sum, _mm_srli_si128(sum, 4))) as u32
+}
+
+// The busy length: the least t by which all that is released before it, from a common start, can be sent. There is none if more falls into
+// a superframe than can be sent in it, which is asked once a few steps have not been enough.
 #[inline(always)]
 unsafe fn busy_length(count: usize, slots: u32, frame: u32, c: &Columns) -> Option<usize> {
     if count == 0 {
         return Some(1);
     }
     let mut t = (count as u32).div_ceil(slots);
+    let mut steps = 0;
     while t <= frame {
-        let before = _mm_set1_ps((t - 1) as f32);
-        let mut sum = _mm_setzero_si128();
-        let mut i = 0;
-        while i < count {
-            let p = c.periods.as_ptr().add(i);
-            let (a, b) = (_mm_div_ps(before, _mm_load_ps(p)), _mm_div_ps(before, _mm_load_ps(p.add(4))));
-            sum = _mm_add_epi32(sum, _mm_add_epi32(_mm_cvttps_epi32(a), _mm_cvttps_epi32(b)));
-            i += 8;
-        }
-        sum = _mm_add_epi32(sum, _mm_srli_si128(sum, 8));
-        sum = _mm_add_epi32(sum, _mm_srli_si128(sum, 4));
-        let released = count as u32 + _mm_cvtsi128_si32(sum) as u32;
+        let released = count as u32 + periods_in(t - 1, count, c);
         if released <= slots * t {
             return Some(t as usize);
         }
         t = released.div_ceil(slots);
+        steps += 1;
+        if steps == 4 && periods_in(frame, count, c) > slots * frame {
+            return None;
+        }
     }
     None
 }

@@ -1,6 +1,7 @@
 // What a call of the proved queue costs, beside a plain bucket queue that checks nothing: no test of the queue, no refusals, no bounds.
 // Both are built for release and run the same sequences with 63 or 64 entries, in turn in one process. Their checksums must agree first.
 // A time is per turn, the lower quartile of many short runs. That of runs of no turns, which only fill the queue, is taken off.
+// With `KIND HOST TURNS` it makes that run alone, for counting instructions.
 use std::hint::black_box;
 use std::process::exit;
 use std::time::Instant;
@@ -264,6 +265,13 @@ fn main() {
         Kind { name: "move", proved: proved::run_move, plain: runs::move_by, has_plain_call: true },
         Kind { name: "next", proved: proved::run_next, plain: runs::next, has_plain_call: true },
     ];
+    let words: Vec<String> = std::env::args().skip(1).collect();
+    if let [name, host, turns] = &words[..] {
+        let kind = kinds.iter().find(|k| k.name == name).expect("a kind");
+        let turns = turns.parse().expect("turns");
+        println!("{}", if host == "proved" { kind.run_proved(turns) } else { kind.run_plain(turns) });
+        return;
+    }
     for kind in &kinds {
         if !kind.agrees() {
             println!("{}: the checksums differ", kind.name);

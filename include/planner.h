@@ -1,16 +1,16 @@
 /* The lazy round planner, for a firmware that keeps one planner and lends it to each call.
  *
  * What is said here of a call's answer, and of what planner and buffer hold after it, is proved of it, on every planner whatever it holds,
- * every number and every buffer; the full statement is that of the call by value (docs/RULES.md). What is said of stack, symbols and
- * machine is not proved: it was looked at in the library as it is built.
+ * every number and every buffer; the full statement is that of the call by value (docs/RULES.md). What is said of stores, stack, symbols
+ * and machine is not proved: it is read off the source and off the library as it is built.
  *
  * open, add, remove and round answer 0 or the number of the first refusal that applies.
  *   - open tests nothing of the planner and overwrites it, refused or not. Refused, it leaves the closed planner, which add, remove and
  *     round refuse with 5.
  *   - add, remove and round test the whole planner first and refuse with 5 one that is not sound: a value out of range, a rule broken, a
  *     queue that does not file the streams. That is not every damage. A planner that was damaged in memory and is still sound is accepted
- *     and used as it stands: another gap, another deadline that keeps the rules, a bit of a free place that nothing reads. A firmware that
- *     has to find every damage keeps a checksum beside the planner.
+ *     and used as it stands: another gap, another period or number of slots with which the rules hold, anything in a place that is free.
+ *     A firmware that has to find every damage keeps a checksum beside the planner.
  *   - add, remove and round store the planner only where they answer 0, and round writes the buffer only then. A refused one writes
  *     nothing in either, so that a planner which is refused may lie in memory that cannot be written. open always writes.
  *
@@ -26,9 +26,10 @@
  * program without a C library has to have its own, as examples/c/freestanding.c has. No heap; no pointer is kept, and no call writes
  * anything but what it is lent and its stack. Every call returns, if these two do and the stack is large enough; nothing tests that it is.
  *
- * Stack, in bytes with the return address, without what the caller's memcpy and memset need: open 856, add 18,424, remove 13,752, round
- * 20,552, filled 24. Measured on a painted stack (`bash bench/stack`), the most over calls of every answer on a dozen tables with up to
- * 64 streams; those of this build, by the compiler that built it, and no promise: measure again what is linked, and leave room above it.
+ * Stack, in bytes, return address and memcpy and memset of glibc included: open 856, add 18,424, remove 13,752, round 20,552, filled 24 (16
+ * of each are the measuring program's). Measured on a painted stack (`bash bench/stack`), the most over calls of every answer on a dozen
+ * tables with up to 64 streams. That is this build, by the compiler that built it, and no promise: measure again what is linked, and leave
+ * room above it.
  */
 #ifndef PLANNER_H
 #define PLANNER_H

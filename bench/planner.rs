@@ -190,17 +190,11 @@ fn measure(table: &str, busy: u32, case: &Case) {
 
 // A round's cost where one thing is varied.
 fn growth() {
-    println!(
-        "{:<8} {:>7} {:>5} {:>5} {:>5} {:>8} {:>8} {:>8} {:>8}",
-        "varied", "streams", "slots", "busy", "frame", "proved", "limit", "fast", "plain"
-    );
+    println!("{:<8} {:>7} {:>5} {:>5} {:>5} {:>8} {:>8} {:>8} {:>8}", "varied", "streams", "slots", "busy", "frame", "proved", "limit", "fast", "plain");
     for p in growth::points() {
         compare(&p.hosts, Call::Round, p.varied);
         let [proved, limit, fast, plain, _] = times(&p.hosts, Call::Round);
-        println!(
-            "{:<8} {:>7} {:>5} {:>5} {:>5} {proved:>8.0} {limit:>8.0} {fast:>8.0} {plain:>8.0}",
-            p.varied, p.streams, p.slots, p.busy, p.frame
-        );
+        println!("{:<8} {:>7} {:>5} {:>5} {:>5} {proved:>8.0} {limit:>8.0} {fast:>8.0} {plain:>8.0}", p.varied, p.streams, p.slots, p.busy, p.frame);
     }
 }
 
@@ -253,11 +247,13 @@ fn main() {
         }
         _ => {}
     }
+    let wanted = tables::all(words.first().map(String::as_str));
+    assert!(!wanted.is_empty(), "no such table: the word `tables` lists them");
     println!(
         "{:<18} {:>5} {:<8} {:>8} {:>8} {:>8} {:>8} {:>9} {:>8} {:>8} {:>8} {:>9}",
         "table", "busy", "call", "proved", "limit", "fast", "plain", "analytic", "/limit", "/fast", "/plain", "/analytic"
     );
-    for table in &tables::all(words.first().map(String::as_str)) {
+    for table in &wanted {
         for case in &table.cases() {
             measure(&table.name, table.busy, case);
         }

@@ -124,13 +124,7 @@ pub fn of_busy_length(n: usize, low: u32, high: u32) -> (u32, Vec<u32>) {
 
 // Each table has a seed of its own, so that one can be made without the others.
 pub fn all(only: Option<&str>) -> Vec<Table> {
-    let loads = [
-        ("light", 1, 2, 8),
-        ("medium", 1, 20, 99),
-        ("full", 1, 4500, FRAME),
-        ("lazy-light", 8, 2, 8),
-        ("lazy-medium", 8, 20, 99),
-    ];
+    let loads = [("light", 1, 2, 8), ("medium", 1, 20, 99), ("full", 1, 4500, FRAME), ("lazy-light", 8, 2, 8), ("lazy-medium", 8, 20, 99)];
     let mut tables = vec![];
     for n in [8, 64] {
         let wanted = |load: &str| only.is_none_or(|name| name.strip_suffix("-g20").unwrap_or(name) == format!("{n}-{load}"));

@@ -1,16 +1,28 @@
-// What a call of the proved planner costs, everything tested, beside two others that do the same work:
-//   plain      document 004's Algorithms 1 to 4 on a bucket queue, with nothing tested;
-//   analytic   formula (2), with a division for each stream and each length up to the superframe.
-// All three run the same calls on the same tables, in turn in one process, and must answer alike. A time is per call, the median of RUNS.
-// With `growth` it measures rounds where one of streams, slots, busy length and superframe is varied.
-// With `TABLE` it measures that table alone; with `TABLE CALL TURNS` it runs only the proved calls, for counting instructions.
+// What a call of the proved planner costs, everything tested, beside others that do the same work on the same tables:
+//   limit      the same full test of the same bytes, by hand in unchecked Rust: what a proved call is held to;
+//   fast       document 004's Algorithms 1 to 4 on a bucket queue made for speed, with nothing tested;
+//   plain      the same algorithms as they stand there, with nothing tested;
+//   analytic   the sums of the rules, with a division for each stream and each length that can matter.
+// All must answer alike, and `limit` must leave the very bytes that the proved call leaves, before anything is timed.
+// Short batches of each are taken in turn, in one process; a time is per call, the lower quartile of its batches.
+//   TABLE            that table alone
+//   growth           rounds where one of streams, slots, busy length and superframe is varied
+//   tables           the tables' periods
+//   check            random calls and damaged planners, the proved calls beside `limit`
+//   TABLE count TURNS   runs each call alone, for counting instructions
 use std::hint::black_box;
-use std::time::Instant;
+use std::time::{Duration, Instant};
 
 #[path = "planner/analytic.rs"]
 mod analytic;
+#[path = "planner/check.rs"]
+mod check;
+#[path = "planner/fast.rs"]
+mod fast;
 #[path = "planner/growth.rs"]
 mod growth;
+#[path = "planner/limit.rs"]
+mod limit;
 #[path = "planner/plain.rs"]
 mod plain;
 #[path = "planner/proved.rs"]
@@ -18,9 +30,7 @@ mod proved;
 #[path = "planner/tables.rs"]
 mod tables;
 
-use tables::Case;
-
-const RUNS: usize = 31;
+use tables::{Case, Hosts};
 
 #[derive(Clone, Copy)]
 pub struct Offer {
@@ -30,7 +40,7 @@ pub struct Offer {
     pub deadline: u32,
 }
 
-// What all three can do; a call answers a number that the others must answer too.
+// What all of them can do; a call answers a number that the others must answer too.
 pub trait Host: Clone {
     fn round(&mut self) -> u32;
     fn add(&mut self, offer: Offer) -> u32;
@@ -49,105 +59,203 @@ pub enum Call {
     Remove(u32),
 }
 
-// The rounds of a run follow each other; every other call is made of a fresh copy.
-fn run<H: Host>(host: &H, call: Call, turns: u32) -> u32 {
-    let mut sum = 0u32;
-    let mut going = host.clone();
-    for _ in 0..turns {
-        let answer = match call {
-            Call::Round => going.round(),
-            Call::Add(offer) => black_box(host.clone()).add(offer),
-            Call::Remove(id) => black_box(host.clone()).remove(id),
-        };
-        sum = sum.wrapping_mul(31).wrapping_add(answer);
+impl Call {
+    pub fn of<H: Host>(self, host: &mut H) -> u32 {
+        match self {
+            Call::Round => host.round(),
+            Call::Add(offer) => host.add(offer),
+            Call::Remove(id) => host.remove(id),
+        }
     }
-    sum
 }
 
-fn nanoseconds(turns: u32, work: impl Fn(u32) -> u32) -> f64 {
-    let began = Instant::now();
-    black_box(work(black_box(turns)));
-    began.elapsed().as_nanos() as f64 / f64::from(turns)
-}
-
-fn median(mut times: Vec<f64>) -> f64 {
-    times.sort_by(f64::total_cmp);
-    times[times.len() / 2]
-}
-
-fn copies<H: Host>(host: &H, turns: u32) -> u32 {
-    (0..turns).fold(0, |sum, _| {
-        black_box(black_box(host).clone());
-        sum
+// The rounds of a run follow each other; every other call is made of a fresh copy.
+fn run<H: Host>(going: &mut H, call: Call, turns: u32) -> u32 {
+    (0..turns).fold(0u32, |sum, _| {
+        let answer = match call {
+            Call::Round => call.of(going),
+            _ => call.of(black_box(&mut going.clone())),
+        };
+        sum.wrapping_mul(31).wrapping_add(answer)
     })
 }
 
-// The time of a call, less that of the copy that it was made of.
-fn time<H: Host>(host: &H, call: Call, turns: u32) -> f64 {
-    let copy = match call {
-        Call::Round => 0.0,
-        _ => nanoseconds(turns, |t| copies(host, t)),
-    };
-    nanoseconds(turns, |t| run(host, call, t)) - copy
+fn copies<H: Host>(host: &H, turns: u32) {
+    for _ in 0..turns {
+        black_box(black_box(host).clone());
+    }
+}
+
+fn nanoseconds(turns: u32, work: impl FnOnce(u32)) -> f64 {
+    let began = Instant::now();
+    work(black_box(turns));
+    began.elapsed().as_nanos() as f64 / f64::from(turns)
+}
+
+// A host in the midst of its batches: its times so far, and those of the copies that its calls are made of.
+struct Timed<H: Host> {
+    going: H,
+    turns: u32,
+    calls: Vec<f64>,
+    copies: Vec<f64>,
+}
+
+fn lower_quartile(times: &[f64]) -> f64 {
+    let mut times = times.to_vec();
+    times.sort_by(f64::total_cmp);
+    times.get(times.len() / 4).copied().unwrap_or(0.0)
+}
+
+impl<H: Host> Timed<H> {
+    // A batch of calls takes about 30 microseconds; of calls that take longer there are two.
+    fn of(host: &H, call: Call) -> Timed<H> {
+        let mut trial = host.clone();
+        let once = nanoseconds(3, |n| {
+            black_box(run(&mut trial, call, n));
+        });
+        Timed { going: host.clone(), turns: ((30_000.0 / once) as u32).clamp(2, 64), calls: vec![], copies: vec![] }
+    }
+
+    fn batch(&mut self, call: Call) {
+        if !matches!(call, Call::Round) {
+            self.copies.push(nanoseconds(self.turns, |n| copies(&self.going, n)));
+        }
+        self.calls.push(nanoseconds(self.turns, |n| {
+            black_box(run(&mut self.going, call, n));
+        }));
+    }
+
+    fn time(&self) -> f64 {
+        lower_quartile(&self.calls) - lower_quartile(&self.copies)
+    }
+}
+
+// Nanoseconds of proved, limit, fast, plain and analytic.
+fn times(hosts: &Hosts, call: Call) -> [f64; 5] {
+    let mut proved = Timed::of(&hosts.proved, call);
+    let mut limit = Timed::of(&hosts.limit, call);
+    let mut fast = Timed::of(&hosts.fast, call);
+    let mut plain = Timed::of(&hosts.plain, call);
+    let mut analytic = Timed::of(&hosts.analytic, call);
+    let began = Instant::now();
+    let mut batches = 0;
+    while batches < 40 || (batches < 1000 && began.elapsed() < Duration::from_millis(400)) {
+        proved.batch(call);
+        limit.batch(call);
+        fast.batch(call);
+        plain.batch(call);
+        if batches % 20 == 0 {
+            analytic.batch(call);
+        }
+        batches += 1;
+    }
+    [proved.time(), limit.time(), fast.time(), plain.time(), analytic.time()]
+}
+
+// Whether all answer alike, and `limit` leaves the same bytes, call by call.
+fn compare(hosts: &Hosts, call: Call, name: &str) {
+    let mut h = hosts.clone();
+    for turn in 0..400 {
+        let answer = call.of(&mut h.proved);
+        assert_eq!(answer, call.of(&mut h.limit), "limit, {name}");
+        assert!(h.proved.bytes() == h.limit.0.bytes(), "limit's bytes, {name}");
+        assert_eq!(answer, call.of(&mut h.fast), "fast, {name}");
+        assert_eq!(answer, call.of(&mut h.plain), "plain, {name}");
+        if turn < 8 {
+            assert_eq!(answer, call.of(&mut h.analytic), "analytic, {name}");
+        }
+        if !matches!(call, Call::Round) {
+            break;
+        }
+    }
 }
 
 // What a row says of a call: nanoseconds and ratios.
 fn measure(table: &str, busy: u32, case: &Case) {
-    let (fast, slow) = (400, 4);
-    let (hosts, call) = (&case.hosts, case.call);
-    let answers = run(&hosts.proved, call, slow);
-    assert_eq!(answers, run(&hosts.analytic, call, slow), "analytic, {table} {}", case.name);
-    assert_eq!(run(&hosts.proved, call, fast), run(&hosts.plain, call, fast), "plain, {table} {}", case.name);
-    let mut times = [vec![], vec![], vec![]];
-    for _ in 0..RUNS {
-        times[0].push(time(&hosts.proved, call, fast));
-        times[1].push(time(&hosts.plain, call, fast));
-        times[2].push(time(&hosts.analytic, call, slow));
-    }
-    let [proved, plain, analytic] = times.map(median);
-    print!("{:<10} {:>5} {:<8} {:>10.0} {:>10.0} {:>13.2}", table, busy, case.name, proved, plain, proved / plain);
+    compare(&case.hosts, case.call, &format!("{table} {}", case.name));
+    let [proved, limit, fast, plain, analytic] = times(&case.hosts, case.call);
+    let ratio = |other: f64| proved / other;
+    print!("{table:<18} {busy:>5} {:<8} {proved:>8.0} {limit:>8.0} {fast:>8.0} {plain:>8.0}", case.name);
     // the analytic way has nothing to compute when a stream goes
-    match call {
-        Call::Remove(_) => println!(" {:>12} {:>16}", "-", "-"),
-        _ => println!(" {:>12.0} {:>16.4}", analytic, proved / analytic),
+    match case.call {
+        Call::Remove(_) => print!(" {:>9}", "-"),
+        _ => print!(" {analytic:>9.0}"),
+    }
+    print!(" {:>8.2} {:>8.2} {:>8.2}", ratio(limit), ratio(fast), ratio(plain));
+    match case.call {
+        Call::Remove(_) => println!(" {:>9}", "-"),
+        _ => println!(" {:>9.4}", ratio(analytic)),
     }
 }
 
 // A round's cost where one thing is varied.
 fn growth() {
-    println!("{:<8} {:>7} {:>5} {:>5} {:>5} {:>10} {:>10}", "varied", "streams", "slots", "busy", "frame", "proved ns", "plain ns");
+    println!("{:<8} {:>7} {:>5} {:>5} {:>5} {:>8} {:>8} {:>8} {:>8}", "varied", "streams", "slots", "busy", "frame", "proved", "limit", "fast", "plain");
     for p in growth::points() {
-        let mut times = [vec![], vec![]];
-        for _ in 0..RUNS {
-            times[0].push(time(&p.proved, Call::Round, 400));
-            times[1].push(time(&p.plain, Call::Round, 400));
-        }
-        let [proved, plain] = times.map(median);
-        println!("{:<8} {:>7} {:>5} {:>5} {:>5} {:>10.0} {:>10.0}", p.varied, p.streams, p.slots, p.busy, p.frame, proved, plain);
+        compare(&p.hosts, Call::Round, p.varied);
+        let [proved, limit, fast, plain, _] = times(&p.hosts, Call::Round);
+        println!("{:<8} {:>7} {:>5} {:>5} {:>5} {proved:>8.0} {limit:>8.0} {fast:>8.0} {plain:>8.0}", p.varied, p.streams, p.slots, p.busy, p.frame);
     }
+}
+
+// One call, under a name that an instruction counter can be told; and the end of a run of calls.
+#[inline(never)]
+fn counted<H: Host>(host: &mut H, call: Call) -> u32 {
+    call.of(host)
+}
+
+#[inline(never)]
+#[no_mangle]
+extern "C" fn run_ended() {
+    black_box(());
+}
+
+fn count<H: Host>(host: &H, name: &str, case: &Case, turns: u32) {
+    let mut going = host.clone();
+    let mut sum = 0u32;
+    for _ in 0..turns {
+        if !matches!(case.call, Call::Round) {
+            going = black_box(host.clone());
+        }
+        sum = sum.wrapping_add(counted(&mut going, case.call));
+    }
+    black_box(sum);
+    println!("{name} {}", case.name);
+    run_ended();
 }
 
 fn main() {
     let words: Vec<String> = std::env::args().skip(1).collect();
-    if let [table, call, turns] = &words[..] {
-        let setup = tables::all(Some(table)).first().expect("a table").setup(Some(call));
-        let case = setup.cases.iter().find(|c| c.name == *call).expect("a call");
-        println!("{}", run(&case.hosts.proved, case.call, turns.parse().expect("turns")));
+    if let [table, _, turns] = &words[..] {
+        let turns = turns.parse().expect("turns");
+        for case in &tables::all(Some(table)).first().expect("a table").cases() {
+            count(&case.hosts.proved, "proved", case, turns);
+            count(&case.hosts.limit, "limit", case, turns);
+            count(&case.hosts.fast, "fast", case, turns);
+            count(&case.hosts.plain, "plain", case, turns);
+        }
         return;
     }
-    if words == ["growth"] {
-        growth();
-        return;
+    match words.first().map(String::as_str) {
+        Some("growth") => return growth(),
+        Some("check") => return check::check(),
+        Some("tables") => {
+            for t in tables::all(None) {
+                println!("{:<18} slots {:>2}, gap {:>3}, busy {:>4}, periods {:?}", t.name, t.slots, t.gap, t.busy, t.periods);
+            }
+            return;
+        }
+        _ => {}
     }
+    let wanted = tables::all(words.first().map(String::as_str));
+    assert!(!wanted.is_empty(), "no such table: the word `tables` lists them");
     println!(
-        "{:<10} {:>5} {:<8} {:>10} {:>10} {:>13} {:>12} {:>16}",
-        "table", "busy", "call", "proved ns", "plain ns", "proved/plain", "analytic ns", "proved/analytic"
+        "{:<18} {:>5} {:<8} {:>8} {:>8} {:>8} {:>8} {:>9} {:>8} {:>8} {:>8} {:>9}",
+        "table", "busy", "call", "proved", "limit", "fast", "plain", "analytic", "/limit", "/fast", "/plain", "/analytic"
     );
-    let only = words.first().map(String::as_str);
-    for table in &tables::all(only) {
-        let setup = table.setup(None);
-        for case in &setup.cases {
-            measure(&setup.name, setup.busy, case);
+    for table in &wanted {
+        for case in &table.cases() {
+            measure(&table.name, table.busy, case);
         }
     }
 }

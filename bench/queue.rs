@@ -1,12 +1,13 @@
 // What a call of the proved queue costs, beside a plain bucket queue that checks nothing: no test of the queue, no refusals, no bounds.
 // Both are built for release and run the same sequences with 63 or 64 entries, in turn in one process. Their checksums must agree first.
-// A time is per turn, the median of 51 runs of 10,000 turns. The time of a run of no turns, which only fills the queue, is taken off.
+// A time is per turn, the lower quartile of many short runs. That of runs of no turns, which only fill the queue, is taken off.
+// With `KIND HOST TURNS` it makes that run alone, for counting instructions.
 use std::hint::black_box;
 use std::process::exit;
 use std::time::Instant;
 
-const TURNS: u32 = 10_000;
-const RUNS: usize = 51;
+const TURNS: u32 = 500;
+const RUNS: usize = 600;
 
 // The proved runs, in crates/queue_runs.
 mod proved {
@@ -191,17 +192,17 @@ impl Kind {
     }
 
     fn agrees(&self) -> bool {
-        [0, 1, 63, 64, 65, 1000, TURNS].iter().all(|t| self.run_proved(*t) == self.run_plain(*t))
+        [0, 1, 63, 64, 65, 1000, 10_000].iter().all(|t| self.run_proved(*t) == self.run_plain(*t))
     }
 
     // The proved and the plain run, timed one after the other.
     fn time(&self, times: &mut Times) {
-        times.proved.push(nanoseconds_per_turn(|turns| self.run_proved(turns)));
-        times.plain.push(nanoseconds_per_turn(|turns| self.run_plain(turns)));
+        times.proved.take(|turns| self.run_proved(turns));
+        times.plain.take(|turns| self.run_plain(turns));
     }
 
-    fn print_row(&self, times: Times) {
-        let (proved, plain) = (median(times.proved), median(times.plain));
+    fn print_row(&self, times: &Times) {
+        let (proved, plain) = (times.proved.per_turn(), times.plain.per_turn());
         if self.has_plain_call {
             println!("{:<20} {:>10.1} {:>13.1} {:>7.1}", self.name, proved, plain, proved / plain);
         } else {
@@ -210,10 +211,28 @@ impl Kind {
     }
 }
 
+// Nanoseconds of runs, and of runs of no turns.
+#[derive(Default)]
+struct Runs {
+    whole: Vec<f64>,
+    empty: Vec<f64>,
+}
+
+impl Runs {
+    fn take(&mut self, run: impl Fn(u32) -> u32) {
+        self.whole.push(nanoseconds(&run, TURNS));
+        self.empty.push(nanoseconds(&run, 0));
+    }
+
+    fn per_turn(&self) -> f64 {
+        (lower_quartile(&self.whole) - lower_quartile(&self.empty)) / f64::from(TURNS)
+    }
+}
+
 #[derive(Default)]
 struct Times {
-    proved: Vec<f64>,
-    plain: Vec<f64>,
+    proved: Runs,
+    plain: Runs,
 }
 
 // Every kind has one run in each round, so a slow spell of the machine meets all rows alike.
@@ -233,13 +252,10 @@ fn nanoseconds(run: &impl Fn(u32) -> u32, turns: u32) -> f64 {
     start.elapsed().as_nanos() as f64
 }
 
-fn nanoseconds_per_turn(run: impl Fn(u32) -> u32) -> f64 {
-    (nanoseconds(&run, TURNS) - nanoseconds(&run, 0)) / TURNS as f64
-}
-
-fn median(mut times: Vec<f64>) -> f64 {
+fn lower_quartile(times: &[f64]) -> f64 {
+    let mut times = times.to_vec();
     times.sort_by(f64::total_cmp);
-    times[times.len() / 2]
+    times[times.len() / 4]
 }
 
 fn main() {
@@ -249,6 +265,13 @@ fn main() {
         Kind { name: "move", proved: proved::run_move, plain: runs::move_by, has_plain_call: true },
         Kind { name: "next", proved: proved::run_next, plain: runs::next, has_plain_call: true },
     ];
+    let words: Vec<String> = std::env::args().skip(1).collect();
+    if let [name, host, turns] = &words[..] {
+        let kind = kinds.iter().find(|k| k.name == name).expect("a kind");
+        let turns = turns.parse().expect("turns");
+        println!("{}", if host == "proved" { kind.run_proved(turns) } else { kind.run_plain(turns) });
+        return;
+    }
     for kind in &kinds {
         if !kind.agrees() {
             println!("{}: the checksums differ", kind.name);
@@ -257,7 +280,7 @@ fn main() {
     }
     let times = measure(&kinds);
     println!("{:<20} {:>10} {:>13} {:>7}", "operation", "proved ns", "unchecked ns", "ratio");
-    for (kind, its_times) in kinds.iter().zip(times) {
+    for (kind, its_times) in kinds.iter().zip(&times) {
         kind.print_row(its_times);
     }
 }

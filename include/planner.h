@@ -1,18 +1,35 @@
 /* The lazy round planner, for a firmware that keeps one planner and lends it to each call.
  *
- * What is said of each call here is proved of it, on every planner whatever it holds, every number and every buffer; the full
- * statement is that of the call by value (docs/RULES.md). Each call returns 0 or the number of the first refusal that applies.
- * A refused call leaves planner and buffer as they were, but for open, which leaves the closed planner: every other call
- * refuses it with 5. Every call tests the whole planner first, so a planner that was damaged in memory is refused with 5.
+ * What is said here of a call's answer, and of what planner and buffer hold after it, is proved of it, on every planner whatever it holds,
+ * every number and every buffer; the full statement is that of the call by value (docs/RULES.md). What is said of stores, stack, symbols
+ * and machine is not proved: it is read off the source and off the library as it is built.
+ *
+ * open, add, remove and round answer 0 or the number of the first refusal that applies.
+ *   - open tests nothing of the planner and overwrites it, refused or not. Refused, it leaves the closed planner, which add, remove and
+ *     round refuse with 5.
+ *   - add, remove and round test the whole planner first and refuse with 5 one that is not sound: a value out of range, a rule broken, a
+ *     queue that does not file the streams. That is not every damage. A planner that was damaged in memory and is still sound is accepted
+ *     and used as it stands: another gap, another period or number of slots with which the rules hold, anything in a place that is free.
+ *     A firmware that has to find every damage keeps a checksum beside the planner.
+ *   - add, remove and round store the planner only where they answer 0, and round writes the buffer only then. A refused one writes
+ *     nothing in either, so that a planner which is refused may lie in memory that cannot be written. open always writes.
  *
  * What C has to keep, since nothing checks a call or this file against the source:
- *   - a 64-bit x86 machine: the library is built for it, and size_t is 8 bytes;
+ *   - a 64-bit x86 machine: the library is built for it, uses its SSE2 registers, and takes size_t to be 8 bytes;
  *   - the structs as they stand here, with the layout and alignment that C gives them; the examples check sizes and offsets;
  *   - no pointer is null, buffers of length 0 included, and each is aligned for its type;
  *   - a planner's memory has been written before it is lent (to open too: zeros will do), so that every byte has a value;
  *   - buffer points to `length` ids that can be read and, for planner_round, written; length is at most the buffer's real one;
  *   - the buffer does not overlap the planner, and nobody else reads or writes either during a call.
- * The functions keep no pointer, need no heap, call nothing outside and always return.
+ *
+ * What the library needs from outside: memcpy and memset as C has them, and nothing else (`nm -u target/staticlib/liblent.a` lists them). A
+ * program without a C library has to have its own, as examples/c/freestanding.c has. No heap; no pointer is kept, and no call writes
+ * anything but what it is lent and its stack. Every call returns, if these two do and the stack is large enough; nothing tests that it is.
+ *
+ * Stack, in bytes, return address and memcpy and memset of glibc included: open 856, add 18,424, remove 13,752, round 20,552, filled 24 (16
+ * of each are the measuring program's). Measured on a painted stack (`bash bench/stack`), the most over calls of every answer on a dozen
+ * tables with up to 64 streams. That is this build, by the compiler that built it, and no promise: measure again what is linked, and leave
+ * room above it.
  */
 #ifndef PLANNER_H
 #define PLANNER_H
@@ -67,7 +84,7 @@ struct planner_held {
     uint32_t n;
 };
 
-/* Opens the planner, whatever it held: B = slots, F = frame, G = gap, L = last, and no stream.
+/* Opens the planner, whatever it held and sound or not: B = slots, F = frame, G = gap, L = last, and no stream.
  * Refuses 1 unless slots is 1 to 64, 2 unless frame is 1 to 5,040, 3 unless gap is 1 to 255, 4 if last is above 1,000,000,000;
  * refused, it leaves the closed planner. */
 uint32_t planner_open(struct planner *p, uint32_t slots, uint32_t frame, uint32_t gap, uint32_t last);
@@ -80,11 +97,11 @@ uint32_t planner_add(struct planner *p, uint32_t id, uint32_t start, uint32_t pe
 /* Takes a stream out. Refuses 5, and 14 where there is no such stream. */
 uint32_t planner_remove(struct planner *p, uint32_t id);
 
-/* Holds the next round: its start, and n ids in the buffer's first n places; later places are untouched.
+/* Holds the next round: its start, and n ids in the buffer's first n places, n at most slots; later places are untouched.
  * Refuses 5; 15 with no stream; 16 if length is below slots; 17 if the start is after 1,000,000,000. */
 struct planner_held planner_round(struct planner *p, uint16_t *buffer, size_t length);
 
-/* How many places of the buffer a round that answered n has filled, from its front: n, or length if n is above it. */
+/* How many places of the buffer a round that answered n has filled, from its front: n, or length if n is above it. It refuses nothing. */
 size_t planner_filled(const uint16_t *buffer, size_t length, uint32_t n);
 
 #ifdef __cplusplus

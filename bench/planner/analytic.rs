@@ -1,4 +1,6 @@
-// The analytic way: the sums of document 01's rules as they stand, with a division for each stream and each length up to the superframe.
+// The analytic way: the sums of document 01's rules as they stand, with a division for each stream and each length that can matter. Those
+// are, for the demand rule, the lengths up to the superframe F; for future demand, the times up to F after the last due time held: from
+// there on each F more adds the packets of a superframe, at most B × F where the demand rule holds.
 use super::{mixed, Host, Offer};
 
 #[derive(Clone, Copy)]
@@ -45,16 +47,20 @@ impl Analytic {
         (1..=self.frame).all(|t| self.demand(t) <= self.slots * t)
     }
 
+    fn horizon(&self) -> u32 {
+        self.frame + self.streams.iter().map(|s| s.release + s.deadline).max().unwrap_or(self.last + 1)
+    }
+
     fn keeps_start_rule(&self) -> bool {
         let now = self.last + 1;
-        (1..=self.frame).all(|length| self.future_demand(now + length) <= self.slots * length)
+        (now + 1..=self.horizon()).all(|t| self.future_demand(t) <= self.slots * (t - now))
     }
 }
 
 impl Host for Analytic {
     fn round(&mut self) -> u32 {
         let mut start = self.last + self.gap;
-        for t in self.last + 2..=self.last + self.gap + self.frame {
+        for t in self.last + 2..=self.horizon() {
             let h = self.future_demand(t);
             if h > 0 {
                 start = start.min(t - h.div_ceil(self.slots));

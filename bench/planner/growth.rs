@@ -1,7 +1,6 @@
 // How a round's cost grows: one of streams, slots, busy length and superframe is varied at a time.
-use super::plain::Plain;
 use super::proved::Planner;
-use super::tables::{busy_length, of_busy_length, Random, GAP, ROUNDS};
+use super::tables::{busy_length, of_busy_length, Hosts, Random, GAP, ROUNDS};
 use super::{Host, Offer};
 
 pub struct Point {
@@ -10,8 +9,7 @@ pub struct Point {
     pub slots: u32,
     pub busy: u32,
     pub frame: u32,
-    pub proved: Planner,
-    pub plain: Plain,
+    pub hosts: Hosts,
 }
 
 // Every stream at a start that is accepted, with its period for deadline; then a long run of rounds.
@@ -26,8 +24,8 @@ fn point(varied: &'static str, slots: u32, frame: u32, periods: &[u32]) -> Point
     for _ in 0..ROUNDS {
         p.round();
     }
-    let plain = Plain::of(slots, frame, GAP, p.last, &p.streams());
-    Point { varied, streams: periods.len(), slots, busy: busy_length(slots, periods).expect("a busy length"), frame, proved: p, plain }
+    let busy = busy_length(slots, periods).expect("a busy length");
+    Point { varied, streams: periods.len(), slots, busy, frame, hosts: Hosts::of(p) }
 }
 
 pub fn points() -> Vec<Point> {

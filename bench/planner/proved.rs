@@ -3,33 +3,35 @@ use super::{mixed, Host, Offer};
 
 #[repr(C)]
 #[derive(Clone, Copy)]
-struct Stream {
-    id: u32,
-    period: u32,
-    deadline: u32,
-    release: u32,
+pub struct Stream {
+    pub id: u32,
+    pub period: u32,
+    pub deadline: u32,
+    pub release: u32,
 }
 
+// No byte of it is padding.
 #[repr(C)]
 #[derive(Clone, Copy)]
 pub struct Planner {
-    slots: u32,
-    frame: u32,
-    gap: u32,
+    pub slots: u32,
+    pub frame: u32,
+    pub gap: u32,
     pub last: u32,
-    count: usize,
-    streams: [Stream; 64],
-    ids: [u16; 64],
-    keys: [u32; 64],
-    next: [u16; 544],
-    prev: [u16; 544],
+    pub count: usize,
+    pub streams: [Stream; 64],
+    pub ids: [u16; 64],
+    pub keys: [u32; 64],
+    pub next: [u16; 544],
+    pub prev: [u16; 544],
 }
 
 #[repr(C)]
-struct Held {
-    answer: u32,
-    start: u32,
-    n: u32,
+#[derive(Debug, PartialEq)]
+pub struct Held {
+    pub answer: u32,
+    pub start: u32,
+    pub n: u32,
 }
 
 extern "C" {
@@ -41,10 +43,14 @@ extern "C" {
 
 impl Planner {
     pub fn open(slots: u32, frame: u32, gap: u32) -> Planner {
+        Planner::open_at(slots, frame, gap, 0)
+    }
+
+    pub fn open_at(slots: u32, frame: u32, gap: u32, last: u32) -> Planner {
         let none = Stream { id: 0, period: 0, deadline: 0, release: 0 };
         let (ids, keys, next, prev) = ([0; 64], [0; 64], [0; 544], [0; 544]);
         let mut p = Planner { slots, frame, gap, last: 0, count: 0, streams: [none; 64], ids, keys, next, prev };
-        assert_eq!(unsafe { planner_open(&mut p, slots, frame, gap, 0) }, 0);
+        assert_eq!(unsafe { planner_open(&mut p, slots, frame, gap, last) }, 0);
         p
     }
 
@@ -52,12 +58,20 @@ impl Planner {
     pub fn streams(&self) -> Vec<[u32; 4]> {
         self.streams[..self.count].iter().map(|s| [s.id, s.period, s.deadline, s.release]).collect()
     }
+
+    pub fn bytes(&self) -> &[u8] {
+        unsafe { std::slice::from_raw_parts((self as *const Planner).cast(), size_of::<Planner>()) }
+    }
+
+    pub fn hold(&mut self, buffer: &mut [u16]) -> Held {
+        unsafe { planner_round(self, buffer.as_mut_ptr(), buffer.len()) }
+    }
 }
 
 impl Host for Planner {
     fn round(&mut self) -> u32 {
         let mut buffer = [0u16; 64];
-        let held = unsafe { planner_round(self, buffer.as_mut_ptr(), 64) };
+        let held = self.hold(&mut buffer);
         assert_eq!(held.answer, 0);
         mixed(held.start, &buffer[..held.n as usize])
     }

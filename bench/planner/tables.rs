@@ -1,12 +1,16 @@
-// The tables that are measured: 8 and 64 streams at three loads, and at a light load with long periods alone, made with a fixed seed,
-// after a long run of rounds.
+// The tables that are measured, made with fixed seeds, after a long run of rounds: 8 and 64 streams at three loads, some of which need
+// periods of 1; at light and medium load with no period below 8, so that a lazy round waits; and with long periods alone. Each with a gap
+// limit of 200 and, under a name that ends in -g20, of 20.
 use super::analytic::Analytic;
+use super::fast::Fast;
+use super::limit::Limit;
 use super::plain::Plain;
 use super::proved::Planner;
 use super::{Call, Host, Offer};
 
 const FRAME: u32 = 5040;
 pub const GAP: u32 = 200;
+const SHORT_GAP: u32 = 20;
 pub const ROUNDS: u32 = 1000;
 
 pub struct Random(pub u64);
@@ -19,27 +23,35 @@ impl Random {
     }
 }
 
+#[derive(Clone)]
 pub struct Table {
     pub name: String,
-    slots: u32,
-    busy: u32,
-    periods: Vec<u32>,
+    pub slots: u32,
+    pub gap: u32,
+    pub busy: u32,
+    pub periods: Vec<u32>,
 }
 
-// One state in the hands of all three.
+// One state in the hands of all five.
 #[derive(Clone)]
 pub struct Hosts {
     pub proved: Planner,
+    pub limit: Limit,
+    pub fast: Fast,
     pub plain: Plain,
     pub analytic: Analytic,
 }
 
 impl Hosts {
-    fn of(proved: Planner, slots: u32) -> Hosts {
-        let streams = proved.streams();
-        let plain = Plain::of(slots, FRAME, GAP, proved.last, &streams);
-        let analytic = Analytic::of(slots, FRAME, GAP, proved.last, &streams);
-        Hosts { proved, plain, analytic }
+    pub fn of(proved: Planner) -> Hosts {
+        let (slots, frame, gap, last, streams) = (proved.slots, proved.frame, proved.gap, proved.last, proved.streams());
+        Hosts {
+            proved,
+            limit: Limit(proved),
+            fast: Fast::of(slots, frame, gap, last, &streams),
+            plain: Plain::of(slots, frame, gap, last, &streams),
+            analytic: Analytic::of(slots, frame, gap, last, &streams),
+        }
     }
 }
 
@@ -47,12 +59,6 @@ pub struct Case {
     pub name: &'static str,
     pub hosts: Hosts,
     pub call: Call,
-}
-
-pub struct Setup {
-    pub name: String,
-    pub busy: u32,
-    pub cases: Vec<Case>,
 }
 
 fn periods() -> Vec<u32> {
@@ -81,17 +87,17 @@ fn fewest_slots(periods: &[u32]) -> u32 {
     periods.iter().map(|p| FRAME / p).sum::<u32>().div_ceil(FRAME)
 }
 
-// Periods and slots with a busy length from `low` to `high`: n - 2 periods are drawn, the last two tried in all ways.
-fn table(random: &mut Random, n: usize, load: &str, low: u32, high: u32) -> Table {
+// Periods and slots with a busy length from `low` to `high`: n - 2 periods are drawn, the last two tried in all ways from `least` on.
+fn table(random: &mut Random, n: usize, load: &str, least: u32, low: u32, high: u32) -> Table {
     loop {
         let drawn = drawn(random, n - 2);
-        for last in periods() {
-            for other in periods().into_iter().filter(|p| *p <= last) {
+        for last in periods().into_iter().filter(|p| *p >= least) {
+            for other in periods().into_iter().filter(|p| least <= *p && *p <= last) {
                 let all: Vec<u32> = drawn.iter().copied().chain([other, last]).collect();
                 for slots in fewest_slots(&all)..=fewest_slots(&all) + n as u32 {
                     match busy_length(slots, &all) {
                         Some(busy) if low <= busy && busy <= high && slots <= 64 => {
-                            return Table { name: format!("{n}-{load}"), slots, busy, periods: all };
+                            return Table { name: format!("{n}-{load}"), slots, gap: GAP, busy, periods: all };
                         }
                         _ => {}
                     }
@@ -107,29 +113,34 @@ fn long(random: &mut Random, n: usize) -> Table {
     let periods: Vec<u32> = (0..n).map(|_| from[random.below(from.len() as u32) as usize]).collect();
     let slots = n as u32 / 8;
     let busy = busy_length(slots, &periods).expect("a busy length");
-    Table { name: format!("{n}-long"), slots, busy, periods }
+    Table { name: format!("{n}-long"), slots, gap: GAP, busy, periods }
 }
 
 // Slots and periods of n streams with a busy length in that range.
 pub fn of_busy_length(n: usize, low: u32, high: u32) -> (u32, Vec<u32>) {
-    let t = table(&mut Random(n as u64), n, "", low, high);
+    let t = table(&mut Random(n as u64), n, "", 1, low, high);
     (t.slots, t.periods)
 }
 
 // Each table has a seed of its own, so that one can be made without the others.
 pub fn all(only: Option<&str>) -> Vec<Table> {
-    let loads = [("light", 2, 8), ("medium", 20, 99), ("full", 4500, FRAME)];
+    let loads = [("light", 1, 2, 8), ("medium", 1, 20, 99), ("full", 1, 4500, FRAME), ("lazy-light", 8, 2, 8), ("lazy-medium", 8, 20, 99)];
     let mut tables = vec![];
     for n in [8, 64] {
-        for (load, low, high) in loads {
-            if only.is_none_or(|name| name == format!("{n}-{load}")) {
-                tables.push(table(&mut Random(n as u64), n, load, low, high));
+        let wanted = |load: &str| only.is_none_or(|name| name.strip_suffix("-g20").unwrap_or(name) == format!("{n}-{load}"));
+        for (load, least, low, high) in loads {
+            // eight streams with no period below 8 have a busy length of 8 at most
+            if wanted(load) && (n, load) != (8, "lazy-medium") {
+                tables.push(table(&mut Random(n as u64), n, load, least, low, high));
             }
         }
-        if only.is_none_or(|name| name == format!("{n}-long")) {
+        if wanted("long") {
             tables.push(long(&mut Random(n as u64), n));
         }
     }
+    let short: Vec<Table> = tables.iter().map(|t| Table { name: format!("{}-g20", t.name), gap: SHORT_GAP, ..t.clone() }).collect();
+    tables.extend(short);
+    tables.retain(|t| only.is_none_or(|name| name == t.name));
     tables
 }
 
@@ -176,7 +187,7 @@ impl Table {
     // All streams, after a long run of rounds.
     fn filled(&self) -> Planner {
         let mut random = Random(11);
-        let mut p = Planner::open(self.slots, FRAME, GAP);
+        let mut p = Planner::open(self.slots, FRAME, self.gap);
         for i in 0..self.periods.len() {
             self.add(&mut p, &mut random, i, None);
         }
@@ -189,13 +200,13 @@ impl Table {
     // The table with no short period: a round at every time unit would leave nothing waiting.
     fn unhurried(&self) -> Table {
         let periods = self.periods.iter().map(|p| if *p < 8 { 240 } else { *p }).collect();
-        Table { name: self.name.clone(), slots: self.slots, busy: self.busy, periods }
+        Table { periods, ..self.clone() }
     }
 
     // All streams but the last, with a crowd: as many with deadline 1 as there are slots; or twice as many at one start, due within 2 and 3 of it.
     fn crowded(&self, crowd: Crowd) -> Option<Planner> {
         let mut random = Random(11);
-        let mut p = Planner::open(self.slots, FRAME, GAP);
+        let mut p = Planner::open(self.slots, FRAME, self.gap);
         let b = self.slots as usize;
         let fewer = self.periods.len() - 1;
         let ones = self.periods[..fewer].iter().filter(|period| **period == 1).count();
@@ -226,20 +237,19 @@ impl Table {
         None
     }
 
-    // All calls, or one alone. Where no offer is refused so on the table as it is, one is made to a crowded one.
-    pub fn setup(&self, only: Option<&str>) -> Setup {
-        let wanted = |name: &str| only.is_none_or(|o| o == name);
+    // All calls. Where no offer is refused so on the table as it is, one is made to a crowded one.
+    pub fn cases(&self) -> Vec<Case> {
         let filled = self.filled();
         let last = self.periods.len() as u32;
         let mut cases = vec![];
-        let mut case = |name, p: &Planner, call| cases.push(Case { name, hosts: Hosts::of(*p, self.slots), call });
+        let mut case = |name, p: &Planner, call| cases.push(Case { name, hosts: Hosts::of(*p), call });
         case("round", &filled, Call::Round);
         case("remove", &filled, Call::Remove(last));
         // one stream fewer, so that there is room for an offer
         let mut fewer = filled;
         fewer.remove(last);
         let adds = [("add", 0, None), ("add, 12", 12, Some(Crowd::Demand)), ("add, 13", 13, Some(Crowd::Start))];
-        for (name, answer, crowd) in adds.into_iter().filter(|a| wanted(a.0)) {
+        for (name, answer, crowd) in adds {
             let crowded = || match crowd? {
                 Crowd::Demand => self.with_offer(self.crowded(Crowd::Demand)?, answer),
                 Crowd::Start => self.with_offer(self.unhurried().crowded(Crowd::Start)?, answer),
@@ -248,6 +258,6 @@ impl Table {
                 case(name, &p, Call::Add(offer));
             }
         }
-        Setup { name: self.name.clone(), busy: self.busy, cases }
+        cases
     }
 }

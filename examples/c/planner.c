@@ -1,7 +1,9 @@
-/* The planner's lines of document 01's example, by a program that keeps one planner and lends it to each call. */
+/* The planner's lines of document 01's example, by a program that keeps one planner and lends it to each call. Each call runs on a painted
+ * stack; how much of it the calls wrote goes to standard error at the end. */
 #include <stdio.h>
 #include <string.h>
 
+#include "painted.h"
 #include "planner.h"
 
 /* The layout of the library's structs: a compiler that lays them out in another way stops here. */
@@ -27,22 +29,47 @@ _Static_assert(sizeof(struct planner_held) == 12, "held");
 _Static_assert(offsetof(struct planner_held, start) == 4, "held.start");
 _Static_assert(offsetof(struct planner_held, n) == 8, "held.n");
 
-static struct planner kept;
+/* The planner that the program keeps, and what a call gets and answers. Not static: the compiler does not see the calls on the painted stack. */
+struct planner kept;
+struct {
+    uint32_t arg[4];
+    uint16_t buffer[64];
+    uint32_t answer;
+    struct planner_held held;
+} call;
+
+static void call_open(void) { call.answer = planner_open(&kept, call.arg[0], call.arg[1], call.arg[2], call.arg[3]); }
+static void call_add(void) { call.answer = planner_add(&kept, call.arg[0], call.arg[1], call.arg[2], call.arg[3]); }
+static void call_remove(void) { call.answer = planner_remove(&kept, call.arg[0]); }
+static void call_round(void) { call.held = planner_round(&kept, call.buffer, 64); }
+
+/* Makes a call, and keeps the most stack that one of its kind has used. */
+static void measured(void (*f)(void), size_t *most, uint32_t a, uint32_t b, uint32_t c, uint32_t d) {
+    const uint32_t given[] = {a, b, c, d};
+    memcpy(call.arg, given, sizeof given);
+    size_t used = painted_stack_used(f);
+    if (used > *most) {
+        *most = used;
+    }
+}
+
+static size_t open_stack, add_stack, remove_stack, round_stack;
 
 static void add(uint32_t id, uint32_t start, uint32_t period, uint32_t deadline) {
-    printf("A,%u,%u\n", (unsigned)id, (unsigned)planner_add(&kept, id, start, period, deadline));
+    measured(call_add, &add_stack, id, start, period, deadline);
+    printf("A,%u,%u\n", (unsigned)id, (unsigned)call.answer);
 }
 
 static void hold(void) {
-    uint16_t buffer[64];
-    struct planner_held held = planner_round(&kept, buffer, 64);
-    size_t filled = planner_filled(buffer, 64, held.n);
+    measured(call_round, &round_stack, 0, 0, 0, 0);
+    struct planner_held held = call.held;
+    size_t filled = planner_filled(call.buffer, 64, held.n);
     printf("R,%u", (unsigned)held.answer);
     if (held.answer == 0) {
         printf(",%u,%u", (unsigned)held.start, (unsigned)held.n);
     }
     for (size_t k = 0; k < filled; k++) {
-        printf(",%u", (unsigned)buffer[k]);
+        printf(",%u", (unsigned)call.buffer[k]);
     }
     printf("\n");
 }
@@ -56,13 +83,16 @@ static int fields_agree(void) {
 }
 
 int main(void) {
-    printf("O,%u\n", (unsigned)planner_open(&kept, 2, 6, 6, 0));
+    measured(call_open, &open_stack, 2, 6, 6, 0);
+    printf("O,%u\n", (unsigned)call.answer);
     add(1, 1, 3, 2);
     add(2, 1, 6, 6);
     add(3, 2, 6, 5);
     hold();
     hold();
     hold();
-    printf("D,9,%u\n", (unsigned)planner_remove(&kept, 9));
+    measured(call_remove, &remove_stack, 9, 0, 0, 0);
+    printf("D,9,%u\n", (unsigned)call.answer);
+    fprintf(stderr, "bytes of stack used: open %zu, add %zu, remove %zu, round %zu\n", open_stack, add_stack, remove_stack, round_stack);
     return fields_agree() ? 0 : 1;
 }

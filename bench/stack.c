@@ -1,0 +1,186 @@
+/* How much stack each call of the C interface needs. A call runs on a stack of its own that has been painted with a pattern; what is no longer
+ * painted afterwards was written. The figure is the largest over the tables and calls below, from the call's return address down. A call may
+ * also pass over bytes of its frame without writing them, so that a run's figure can be below what another run of it writes; the largest
+ * of many is taken. */
+#define _GNU_SOURCE
+#include <stdint.h>
+#include <stdio.h>
+#include <stdlib.h>
+#include <string.h>
+
+#include "painted.h"
+#include "planner.h"
+#include "superframe.h"
+
+/* What the next call gets, and what it answered. None is static: the compiler does not see the calls, and has to keep each in memory. */
+struct planner kept;
+uint16_t buffer[64];
+uint32_t arg[4];
+size_t length;
+uint8_t periods[255];
+uint32_t answer;
+
+static void call_open(void) { answer = planner_open(&kept, arg[0], arg[1], arg[2], arg[3]); }
+static void call_add(void) { answer = planner_add(&kept, arg[0], arg[1], arg[2], arg[3]); }
+static void call_remove(void) { answer = planner_remove(&kept, arg[0]); }
+static void call_round(void) { answer = planner_round(&kept, buffer, length).answer; }
+static void call_filled(void) { answer = (uint32_t)planner_filled(buffer, length, arg[0]); }
+static void call_superframe(void) { answer = superframe_answer(superframe(periods, length)); }
+static void call_nothing(void) { answer = 0; }
+
+/* The largest figure of a call, for answer 0 and for each refusal. */
+struct figure {
+    const char *name;
+    size_t most[26];
+};
+
+static struct figure figures[] = {
+    {"planner_open", {0}}, {"planner_add", {0}}, {"planner_remove", {0}}, {"planner_round", {0}}, {"planner_filled", {0}}, {"superframe", {0}},
+};
+
+static uint32_t measure(int which, void (*call)(void)) {
+    size_t used = painted_stack_used(call);
+    size_t *most = &figures[which].most[which == 4 || answer > 25 ? 0 : answer];
+    if (used > *most) {
+        *most = used;
+    }
+    return answer;
+}
+
+static uint32_t open_with(uint32_t slots, uint32_t frame, uint32_t gap, uint32_t last) {
+    uint32_t given[] = {slots, frame, gap, last};
+    memcpy(arg, given, sizeof arg);
+    return measure(0, call_open);
+}
+
+static uint32_t add(uint32_t id, uint32_t start, uint32_t period, uint32_t deadline) {
+    uint32_t given[] = {id, start, period, deadline};
+    memcpy(arg, given, sizeof arg);
+    return measure(1, call_add);
+}
+
+static uint32_t take_out(uint32_t id) {
+    arg[0] = id;
+    return measure(2, call_remove);
+}
+
+static uint32_t hold(size_t places) {
+    length = places;
+    return measure(3, call_round);
+}
+
+static uint32_t seed = 1;
+
+static uint32_t below(uint32_t limit) {
+    seed = seed * 1103515245u + 12345u;
+    return (seed >> 16) % limit;
+}
+
+/* Streams of random periods that divide 5,040, calls of each kind and of each refusal between them, then the same on damaged planners. */
+static void table(uint32_t slots, uint32_t streams, uint32_t gap) {
+    open_with(slots, 5040, gap, below(1000));
+    for (uint32_t tries = 0; tries < 40 * streams && kept.table.count < streams; tries++) {
+        uint32_t period = 1 + below(240);
+        if (5040 % period == 0) {
+            add(1 + below(32767), kept.last + 1 + below(240), period, period - below(period / 2 + 1));
+        }
+    }
+    for (int k = 0; k < 200; k++) {
+        hold(64);
+        /* 6 to 11, 13 where it comes to that, 14, 16 */
+        add(0, kept.last + 1, 240, 240);
+        add(kept.table.streams[0].id, kept.last + 1, 240, 240);
+        add(1 + below(32767), kept.last + 1, 11, 1);
+        add(1 + below(32767), kept.last + 1, 240, 0);
+        add(1 + below(32767), kept.last, 240, 240);
+        add(1 + below(32767), kept.last + 1, 240, 1);
+        add(1 + below(32767), kept.last + 1, 1, 1);
+        take_out(0);
+        hold(slots - 1);
+        if (k % 10 == 0 && kept.table.count > 0) {
+            struct planner_stream again = kept.table.streams[below((uint32_t)kept.table.count)];
+            take_out(again.id);
+            add(again.id, kept.last + 1 + below(240), again.period, again.deadline);
+        }
+        /* one byte damaged */
+        struct planner good = kept;
+        ((unsigned char *)&kept)[below(sizeof kept)] ^= (unsigned char)(1u << below(8));
+        hold(64);
+        kept = good;
+        ((unsigned char *)&kept)[below(sizeof kept)] ^= (unsigned char)(1u << below(8));
+        add(1 + below(32767), kept.last + 1, 240, 240);
+        kept = good;
+        ((unsigned char *)&kept)[below(sizeof kept)] ^= (unsigned char)(1u << below(8));
+        take_out(kept.table.streams[0].id);
+        kept = good;
+    }
+}
+
+static void small_calls(void) {
+    open_with(0, 1, 1, 0);
+    open_with(1, 0, 1, 0);
+    open_with(1, 1, 0, 0);
+    open_with(1, 1, 1, 1000000001);
+    hold(64);
+    add(1, 1, 1, 1);
+    take_out(1);
+    open_with(1, 1, 1, 999999999);
+    hold(64);
+    add(1, 1000000000, 1, 1);
+    hold(64);
+    hold(64);
+    /* document 01's case of 13 */
+    open_with(1, 10, 20, 0);
+    add(1, 1, 10, 10);
+    add(2, 1, 10, 10);
+    hold(64);
+    add(3, 10, 10, 1);
+    for (uint32_t n = 0; n < 70; n++) {
+        length = n % 65;
+        arg[0] = below(70);
+        measure(4, call_filled);
+    }
+    const uint8_t lists[][3] = {{5, 7, 15}, {240, 7, 9}, {240, 7, 11}, {0, 7, 9}, {233, 144, 89}, {1, 1, 1}};
+    for (size_t k = 0; k < sizeof lists / sizeof lists[0]; k++) {
+        memcpy(periods, lists[k], 3);
+        length = 3;
+        measure(5, call_superframe);
+    }
+    /* every pair: the greatest common divisor calls itself */
+    for (uint32_t a = 1; a <= 240; a++) {
+        for (uint32_t b = 1; b <= 240; b++) {
+            periods[0] = (uint8_t)a;
+            periods[1] = (uint8_t)b;
+            length = 2;
+            measure(5, call_superframe);
+        }
+    }
+}
+
+int main(void) {
+    printf("a call of nothing: %zu bytes\n", painted_stack_used(call_nothing));
+    small_calls();
+    const uint32_t gaps[] = {200, 20};
+    for (int g = 0; g < 2; g++) {
+        table(1, 8, gaps[g]);
+        table(3, 8, gaps[g]);
+        table(2, 64, gaps[g]);
+        table(5, 64, gaps[g]);
+        table(10, 64, gaps[g]);
+        table(64, 64, gaps[g]);
+    }
+    for (size_t k = 0; k < sizeof figures / sizeof figures[0]; k++) {
+        size_t most = 0;
+        for (int a = 0; a < 26; a++) {
+            most = figures[k].most[a] > most ? figures[k].most[a] : most;
+        }
+        printf("%-15s %6zu bytes;", figures[k].name, most);
+        for (int a = 0; a < 26; a++) {
+            if (figures[k].most[a] > 0) {
+                printf(" %d: %zu", a, figures[k].most[a]);
+            }
+        }
+        printf("\n");
+    }
+    return 0;
+}

@@ -1,0 +1,58 @@
+/* Document 01's example with no C library: memcpy and memset are all that the proved libraries need from outside. Exits with 0 if each answer
+ * is the one expected, else with the number of the first that is not. For x86-64 Linux. */
+#include "planner.h"
+#include "superframe.h"
+
+void *memcpy(void *to, const void *from, size_t n) {
+    for (size_t k = 0; k < n; k++) {
+        ((unsigned char *)to)[k] = ((const unsigned char *)from)[k];
+    }
+    return to;
+}
+
+void *memset(void *to, int value, size_t n) {
+    for (size_t k = 0; k < n; k++) {
+        ((unsigned char *)to)[k] = (unsigned char)value;
+    }
+    return to;
+}
+
+static struct planner kept;
+
+static int is_round(uint32_t start, uint16_t first, uint16_t second) {
+    uint16_t buffer[64] = {0};
+    struct planner_held held = planner_round(&kept, buffer, 64);
+    return held.answer == 0 && held.start == start && planner_filled(buffer, 64, held.n) == 2 && buffer[0] == first && buffer[1] == second;
+}
+
+/* How many answers have been looked at, and which was the first that is not the one expected; 0 if none. */
+static int seen, first_wrong;
+
+static void expect(int right) {
+    seen++;
+    if (!right && first_wrong == 0) {
+        first_wrong = seen;
+    }
+}
+
+static void example(void) {
+    const uint8_t periods[] = {5, 7, 15};
+    expect(planner_open(&kept, 2, 6, 6, 0) == 0);
+    expect(planner_add(&kept, 1, 1, 3, 2) == 0);
+    expect(planner_add(&kept, 2, 1, 6, 6) == 0);
+    expect(planner_add(&kept, 3, 2, 6, 5) == 0);
+    expect(is_round(2, 1, 2));
+    expect(is_round(5, 1, 3));
+    expect(is_round(8, 1, 2));
+    expect(planner_remove(&kept, 9) == 14);
+    expect(superframe(periods, sizeof periods) == 105);
+}
+
+/* Where the program begins; it leaves by the call of Linux that ends a process. */
+__attribute__((force_align_arg_pointer)) void _start(void) {
+    example();
+    long code = first_wrong;
+    __asm__ volatile("syscall" : : "a"(60L), "D"(code) : "rcx", "r11", "memory");
+    for (;;) {
+    }
+}

@@ -1,22 +1,22 @@
 -- Why each part of the command program keeps what was told.
 use mathlib.Core.Path.{_≡_, refl, sym, ap, subst, subst⁻¹, _∙_}
 use mathlib.Core.Bool.{Bool, true, false, false≢true}
-use mathlib.Core.Logic.{_⊎_, inl, inr, ⊎-elim}
-use mathlib.Core.List.{List, [], _∷_, _++_, append-nil, append-assoc}
-use Prim.Native.Nat.{ℕ, zero, suc, _+_, _-_, _*_, _≤_, _<_, min}
+use mathlib.Core.Logic.{_⊎_, inl, inr}
+use mathlib.Core.List.{List, [], _++_, append-nil}
+use Prim.Native.Nat.{ℕ, _+_, _-_, _*_, _≤_, _<_}
 use native.Mathlib.Nat.{lt-irrefl}
-use native.Mathlib.Numerals.{add-one}
-use native.Mathlib.Decide.{decLe, ℕ-discrete}
+use native.Mathlib.Decide.{ℕ-discrete}
 use native.Mathlib.Omega.{arith}
-use lib.ListN.{length, take, drop, set, getD, length-append, length-take, length-drop, take-append-drop, drop-of-length-le}
-use lib.Seq.{length-take-le, take-all, take-at, drop-at, take-take, take-add, take-suc, drop-cons, set-at, getD-drop, getD-append-add}
+use lib.ListN.{length, take, drop, length-take, length-drop, take-append-drop, drop-of-length-le}
+use lib.Seq.{length-take-le, take-at, take-take}
 use Rattle.command.specs.Lines.{IsLineEnd}
 use Rattle.command.specs.Runs.{CanRun, HasRun, HasRunLast}
-use Rattle.command.specs.Script.{IsBeginning}
 use Rattle.command.specs.declared.lines.Reached.{Reached}
 use Rattle.console.specs.Transcript.{HasNoEnd, Told, ToldAll}
 use Rattle.console.specs.Transcript.Transcript.{none}
-use Rattle.console.specs.TranscriptFacts.{no-end-first, read-told, cut-told, rest-no-end, step-answer, step-written, run-told, none-left, last-told}
+use Rattle.console.specs.LineEndFacts.{no-end-first, rest-no-end}
+use Rattle.console.specs.MoveFacts.{first-64}
+use Rattle.console.specs.TranscriptFacts.{read-told, cut-told, step-answer, step-written, run-told, none-left, last-told}
 use Rattle.console.specs.Session.{at-hand, HasTold, IsBegun, InBounds, CanAnswer, HasAnswered, CanAnswerLast, HasAnsweredLast, handed-over, IsMoved, CanKeep, IsKept, CanRefill, delivered, IsRefilled, IsTurned}
 use Rattle.console.specs.declared.Session.{Session}
 use Rattle.console.specs.declared.Turn.{Turn}
@@ -85,46 +85,6 @@ module _ (s : Session) (input out : List ℕ) (can : CanAnswer s input out) wher
           where
             ends : at-hand s input ≡ [] → s .reached .from ≡ length (take (s .have) input)
             ends nothing = omega (arith, ap length nothing, length-drop (s .reached .from) (take (s .have) input), all-there, can .bounds .from)
-
--- one byte more stands at the front
-pub one-moved : (l m : List ℕ) (from k : ℕ) → from + k < length l → m ≡ take k (drop from l) ++ drop k l
-    → set m k (getD m (from + k) 0) ≡ take (k + 1) (drop from l) ++ drop (k + 1) l
-one-moved l m from k inside same =
-    let front = take k (drop from l) in
-    let long : length front ≡ k = length-take-le k (drop from l) (omega (arith, length-drop from l)) in
-    let split : m ≡ front ++ (getD l k 0 ∷ drop (suc k) l) = same ∙ ap (λ (t : List ℕ). front ++ t) (drop-cons l k 0 (omega arith)) in
-    let place : from + k ≡ length front + from = omega (arith, long) in
-    let other-way : k + from ≡ from + k = omega arith in
-    let there : getD m (from + k) 0 ≡ getD l (from + k) 0 =
-    ap (λ (t : List ℕ). getD t (from + k) 0) same
-    ∙ ap (λ (j : ℕ). getD (front ++ drop k l) j 0) place
-    ∙ getD-append-add front (drop k l) from 0 ∙ getD-drop k l from 0 ∙ ap (λ (j : ℕ). getD l j 0) other-way in
-    ap (λ (x : ℕ). set m k x) there
-    ∙ ap (λ (t : List ℕ). set t k (getD l (from + k) 0)) split
-    ∙ set-at front (getD l k 0) (drop (suc k) l) (getD l (from + k) 0) k long
-    ∙ sym (append-assoc front (getD l (from + k) 0 ∷ []) (drop (suc k) l))
-    ∙ ap (λ (x : ℕ). (front ++ (x ∷ [])) ++ drop (suc k) l) (sym (getD-drop from l k 0))
-    ∙ ap (λ (t : List ℕ). t ++ drop (suc k) l) (sym (take-suc (drop from l) k 0 (omega (arith, length-drop from l))))
-    ∙ ap (λ (j : ℕ). take j (drop from l) ++ drop j l) (sym (add-one k))
-
--- the first of the bytes at hand
-module _ (l : List ℕ) (from have : ℕ) (in-hand : from ≤ have) (within : have ≤ length l) where
-  hand-is : drop from (take have l) ≡ take (have - from) (drop from l)
-  hand-is =
-      let split : have ≡ from + (have - from) = omega arith in
-      ap (λ (n : ℕ). drop from (take n l)) split ∙ ap (drop from) (take-add from (have - from) l)
-      ∙ drop-at (take from l) (take (have - from) (drop from l)) from (length-take-le from l (omega arith))
-
-  pub first-64 : take 64 (drop from (take have l)) ≡ take (min 64 (have - from)) (drop from l)
-  first-64 = ap (take 64) hand-is ∙ go (decLe 64 (have - from))
-    where
-      go : Dec (64 ≤ have - from) → take 64 (take (have - from) (drop from l)) ≡ take (min 64 (have - from)) (drop from l)
-      go (yes long) =
-          let least : 64 ≡ min 64 (have - from) = omega arith in
-          take-take 64 (have - from) (drop from l) long ∙ ap (λ (n : ℕ). take n (drop from l)) least
-      go (no short) =
-          let least : have - from ≡ min 64 (have - from) = omega arith in
-          take-all 64 (take (have - from) (drop from l)) (omega (arith, length-take (have - from) (drop from l))) ∙ ap (λ (n : ℕ). take n (drop from l)) least
 
 module _ (s : Session) (before after : List ℕ) (can : CanKeep s before) (k : ℕ) (is : IsMoved (s .reached .from) (s .have) before after k) where
   -- the first 64 of the bytes at hand stand at the front

@@ -5,7 +5,7 @@ use Prim.Native.Nat.{_-_, _≤_, _+_}
 use native.Mathlib.Omega.{arith}
 use lib.ListN.{length, take, drop, length-set}
 use borrow.Author.Needs.{needs}
-use Rattle.console.specs.SessionFacts.{one-moved}
+use Rattle.console.specs.MoveFacts.{one-moved}
 use Rattle.console.proofs.move_to_front_in_range.Statement.{statement}
 use Rattle.console.proofs.move_to_front_in_range.Tie as tie
 

@@ -1,6 +1,6 @@
 -- `console::refilled_in_range` meets its contract: the read leaves what was kept as it is (`kept-refilled`).
 use mathlib.Core.Path.{_∙_}
-use Prim.Native.Nat.{_-_}
+use Prim.Native.Nat.{_-_, _≤_}
 use native.Mathlib.Omega.{arith}
 use lib.ListN.{length}
 use borrow.Rule.Slice.PartMut.{take-put}
@@ -32,11 +32,15 @@ same-length c = search needs
 
 returns : tie.Need-returns
 returns c =
-    kept-refilled (c .before .before .before .before .before .before .before .before .before .before .args .s) (c .before .before .before .before .before .before .before .keep-rest-in-range .result) (c .before .before .before .before .before .before .before .before .before .before .args .input .now) _ _ (c .before .before .before .before .before .before .before .keep-rest-in-range .ensures) (c .before .before .before .before .before .before .before .before .before .before .pre)
-    (take-put (c .before .before .before .before .before .before .before .keep-rest-in-range .result .have) (length (c .before .before .before .before .before .before .before .keep-rest-in-range .last .1 .0) - c .before .before .before .before .before .before .before .keep-rest-in-range .result .have) (c .before .before .before .before .before .before .before .keep-rest-in-range .last .1 .0) (c .before .before .read-input .last .0) (omega (arith, c .before .before .before .before .before .before .before .keep-rest-in-range .ensures .have, c .before .before .before .before .before .before .before .keep-rest-in-range .kept .1 .0, c .before .before .before .before .before .before .before .before .before .before .pre .can-keep .places)))
-    _ _ _ _
-    (within-part (c .before .before .before .before .before .before .before .keep-rest-in-range .last .1 .0) (c .before .before .before .before .before .before .before .keep-rest-in-range .result .have) (length (c .before .before .before .before .before .before .before .keep-rest-in-range .last .1 .0) - c .before .before .before .before .before .before .before .keep-rest-in-range .result .have) (c .before .before .read-input .result .count) (c .before .before .read-input .ensures .few) (omega (arith, c .before .before .before .before .before .before .before .keep-rest-in-range .ensures .have)) (c .before .before .before .before .before .before .before .keep-rest-in-range .kept .1 .0 ∙ c .before .before .before .before .before .before .before .before .before .before .pre .can-keep .places))
-    (c .before .before .read-input .ensures .at-end)
+    let start = c .before .before .before .before .before .before .before .before .before .before in
+    let kept = c .before .before .before .before .before .before .before .keep-rest-in-range in
+    let got = c .before .before .read-input in
+    let room = length (kept .last .1 .0) - kept .result .have in
+    let have-fits : kept .result .have ≤ length (kept .last .1 .0) = omega (arith, kept .ensures .have, kept .kept .1 .0, start .pre .can-keep .places) in
+    let few = within-part (kept .last .1 .0) (kept .result .have) room (got .result .count) (got .ensures .few) (omega (arith, kept .ensures .have))
+    (kept .kept .1 .0 ∙ start .pre .can-keep .places) in
+    kept-refilled (start .args .s) (kept .result) (start .args .input .now) _ _ (kept .ensures) (start .pre)
+    (take-put (kept .result .have) room (kept .last .1 .0) (got .last .0) have-fits) _ _ _ _ few (got .ensures .at-end)
 
 pub refilled-in-range-spec : {M : Type 1} → statement M
 refilled-in-range-spec =

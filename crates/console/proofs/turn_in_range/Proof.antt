@@ -29,7 +29,12 @@ sub-if2 : tie.Need-sub-if2
 sub-if2 c = search needs
 
 refilled-in-range-requires : tie.Need-refilled-in-range-requires
-refilled-in-range-requires c κs = can-refill _ _ _ _ (c .before .before .before .before .before .before .before .before .before .answer-lines-in-range .ensures) _ (c .before .before .before .handed-over .ensures) (c .before .before .before .before .before .before .before .before .before .before .before .before .before .before .pre .places) (omega (arith, leb-true 1430 (length (c .before .before .before .before .before .before .before .before .before .answer-lines-in-range .last .1 .1 .0) - c .before .before .before .before .before .before .before .before .before .answer-lines-in-range .result .reached .end) (c .before .if2 .taken), c .before .before .before .before .before .before .before .before .before .answer-lines-in-range .kept .1 .1 .0, c .before .before .before .before .before .before .before .before .before .before .before .before .before .before .pre .room))
+refilled-in-range-requires c κs =
+    let start = c .before .before .before .before .before .before .before .before .before .before .before .before .before .before in
+    let answered = c .before .before .before .before .before .before .before .before .before .answer-lines-in-range in
+    let room = leb-true 1430 (length (answered .last .1 .1 .0) - answered .result .reached .end) (c .before .if2 .taken) in
+    can-refill _ _ _ _ (answered .ensures) _ (c .before .before .before .handed-over .ensures) (start .pre .places)
+    (omega (arith, room, answered .kept .1 .1 .0, start .pre .room))
 
 same-length : tie.Need-same-length
 same-length c = search needs

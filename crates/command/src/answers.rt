@@ -6,7 +6,6 @@ ghost use lib.ListN.{take};
 ghost use Rattle.command.specs.Answers.{Gives, IsOpenGiven, IsAddGiven, IsRemoveGiven, IsRoundGiven, IsAnswered};
 use super::Command;
 use super::print::Numbers;
-use planner::Changed;
 use planner::Planner;
 use planner::Rounded;
 

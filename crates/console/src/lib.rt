@@ -5,10 +5,6 @@ ghost use Prim.Native.Nat.{_≤_, _<_};
 ghost use lib.ListN.{length};
 ghost use Rattle.console.specs.Session.{IsBegun, CanAnswer, HasAnswered, CanAnswerLast, HasAnsweredLast, handed-over, IsMoved, CanKeep, IsKept, CanRefill, IsRefilled, IsTurned};
 use command::Reached;
-use planner::Planner;
-use queue::Queue;
-use table::Stream;
-use table::Table;
 
 mod system;
 

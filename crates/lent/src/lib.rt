@@ -3,12 +3,7 @@
 ghost use mathlib.Core.Path.{_≡_};
 ghost use lib.ListN.{length, take};
 ghost use Rattle.lent.specs.Lent.{IsLentOpen, IsLentAdd, IsLentRemove, IsLentRound};
-use planner::Changed;
 use planner::Planner;
-use planner::Rounded;
-use queue::Queue;
-use table::Stream;
-use table::Table;
 
 // What a round answers beside the planner: its start and the count of ids written, both 0 if refused.
 #[repr(C)]

@@ -1,5 +1,5 @@
 -- `console::move_to_front_in_range` meets its contract: k bytes stand at the front, and the others are as they were (`one-moved`).
-use mathlib.Core.Path.{_≡_, refl, ap, _∙_}
+use mathlib.Core.Path.{_≡_, refl, _∙_}
 use mathlib.Core.List.{_++_}
 use Prim.Native.Nat.{_-_, _≤_, _+_}
 use native.Mathlib.Omega.{arith}

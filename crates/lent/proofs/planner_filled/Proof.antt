@@ -4,9 +4,6 @@ use lib.ListN.{length}
 use borrow.Author.Needs.{needs}
 use Rattle.lent.proofs.planner_filled.Statement.{statement}
 use Rattle.lent.proofs.planner_filled.Tie as tie
-use Rattle.lent.proofs.planner_filled.Reads as reads
-use Rattle.lent.proofs.planner_filled.Lts as lts
-use Rattle.planner.proofs.filled.Reads as filled-reads
 
 -- src/lib.rt:82:5
 filled-requires : tie.Need-filled-requires

@@ -1,9 +1,8 @@
 -- `command::lines::line_end_in_range` meets its contract: no byte from `from` to i ends a line.
-use mathlib.Core.Path.{_≡_}
-use Prim.Native.Nat.{ℕ, _-_, _≤_, _<_}
+use Prim.Native.Nat.{_-_, _≤_}
 use native.Mathlib.Nat.{lt-irrefl}
 use native.Mathlib.Omega.{arith}
-use lib.ListN.{length, getD}
+use lib.ListN.{length}
 use borrow.Author.Needs.{needs}
 use Rattle.command.specs.Lines.{NoEnd, none-seen, one-more-seen}
 use Rattle.command.proofs.lines.line_end_in_range.Statement.{statement}

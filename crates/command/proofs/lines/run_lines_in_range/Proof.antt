@@ -1,5 +1,4 @@
 -- `command::lines::run_lines_in_range` meets its contract: at the head of a turn whole lines have been answered up to `from`.
-use mathlib.Core.Path.{_≡_}
 use Prim.Native.Nat.{_-_}
 use native.Mathlib.Omega.{arith}
 use borrow.Author.Needs.{needs}

@@ -10,11 +10,24 @@ pub struct Delivery {
     pub ended: bool,
 }
 
-// Whether a call that has just failed is to be made again: it was interrupted, or it would have had to wait.
+// Lets a thousandth of a second pass.
+fn rest() {
+    let asked = libc::types::timespec {
+        tv_sec: 0,
+        tv_nsec: 1000000,
+    };
+    let mut left = libc::types::timespec {
+        tv_sec: 0,
+        tv_nsec: 0,
+    };
+    libc::nanosleep(&asked, &mut left);
+}
+
+// Whether a call that has just failed is to be made again: it was interrupted, or it would have had to wait, and a moment has passed.
 fn is_to_be_tried_again() -> bool {
     let error = os::errno();
     if error == libc::EAGAIN {
-        libc::sched_yield();
+        rest();
         return true;
     }
     error == libc::EINTR

@@ -5,6 +5,7 @@ import signal
 import subprocess
 import sys
 import time
+import tty
 
 program = sys.argv[1]
 pipe = subprocess.PIPE
@@ -95,7 +96,6 @@ def failed_read():
 def cut_line_after_a_failed_read():
     # a pseudo terminal whose other end is gone gives an error and no end of input
     ours, theirs = os.openpty()
-    import tty
     tty.setraw(theirs)
     child = start(stdin=theirs)
     os.close(theirs)
@@ -106,8 +106,8 @@ def cut_line_after_a_failed_read():
     expect("a line cut by a failed read is not run", (out, err), (b"O,0\n", b"standard input cannot be read on; last line answered: 1\n"))
 
 
-def interrupted_read():
-    # stopping and continuing interrupts the read of a terminal; nothing may be lost
+def stopped_and_going_on():
+    # nothing may be lost where the program is stopped in a read
     child = start()
     first = ask(child, b"O,2,6,6,0\n")
     for _ in range(5):
@@ -127,6 +127,15 @@ def full_device():
     expect("an output that is full", err, b"standard output cannot be written on; last line answered: 0\n")
 
 
-for part in (one_line_at_a_time, byte_by_byte, input_that_would_block, output_that_would_block, failed_read, cut_line_after_a_failed_read, interrupted_read, full_device):
+for part in (
+    one_line_at_a_time,
+    byte_by_byte,
+    input_that_would_block,
+    output_that_would_block,
+    failed_read,
+    cut_line_after_a_failed_read,
+    stopped_and_going_on,
+    full_device,
+):
     part()
 print("the pipe example passed")

@@ -28,7 +28,11 @@ begun-told s is input =
     drop-of-length-le (take (s .have) input) {i = s .reached .from} (omega (arith, length-take (s .have) input, is .have, is .beginning .from)) in
     subst⁻¹ (λ (l : List ℕ). Told [] [] (s .reached .planner) (s .reached .number) l) nothing
     (subst⁻¹ (λ (n : ℕ). Told [] [] (s .reached .planner) n []) (is .beginning .number)
-    (record { first = s .reached .planner; closed = is .beginning .closed; lines = []; rest = []; all = refl; transcript = none; stands = inl refl }))
+    (record {
+      rest = [];
+      answered = record { first = s .reached .planner; closed = is .beginning .closed; lines = []; all = refl; transcript = none };
+      stands = inl refl;
+    }))
 
 module _ (s : Session) (input out : List ℕ) (can : CanAnswer s input out) where
   all-there : length (take (s .have) input) ≡ s .have

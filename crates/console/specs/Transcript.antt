@@ -41,28 +41,27 @@ pub record IsCut (kept rest : List ℕ) : Type 0 where
   pub kept-is : kept ≡ take 64 line ++ more
   pub rest-is : rest ≡ line ++ more
 
--- Of all bytes read, whole lines have been answered, from the closed planner on; p, after n lines, is what they left. The bytes kept are the
--- rest, or stand for it.
-pub record Told (read written : List ℕ) (p : Planner) (n : ℕ) (kept : List ℕ) : Type 0 where
+-- All bytes read are whole lines and a rest. The lines have been answered, from the closed planner on; p, after n lines, is what they left.
+pub record AreAnswered (read written : List ℕ) (p : Planner) (n : ℕ) (rest : List ℕ) : Type 0 where
   pub first : Planner
   pub closed : IsFresh 0 0 0 0 first
   pub lines : List ℕ
-  pub rest : List ℕ
   pub all : read ≡ lines ++ rest
   pub transcript : Transcript first lines written p n
+
+-- Whole lines of what was read have been answered, and the bytes kept are the rest, or stand for it.
+pub record Told (read written : List ℕ) (p : Planner) (n : ℕ) (kept : List ℕ) : Type 0 where
+  pub rest : List ℕ
+  pub answered : AreAnswered read written p n rest
   pub stands : (kept ≡ rest) ⊎ IsCut kept rest
 
 -- 01: "the last may lack it": all that was read is answered, and what follows the last line end is a line too, if there is any.
 pub record ToldAll (read written : List ℕ) : Type 0 where
-  pub first : Planner
-  pub closed : IsFresh 0 0 0 0 first
-  pub lines : List ℕ
   pub rest : List ℕ
-  pub all : read ≡ lines ++ rest
   pub no-end : HasNoEnd rest
   pub p : Planner
   pub n : ℕ
   pub answers : List ℕ
-  pub transcript : Transcript first lines answers p n
+  pub answered : AreAnswered read answers p n rest
   pub nothing-left : rest ≡ [] → written ≡ answers
   pub last-line : (rest ≡ [] → ⊥) → (answer : List ℕ) × ((after : Planner) × (IsAnswer p (n + 1) rest answer after × (written ≡ answers ++ answer)))

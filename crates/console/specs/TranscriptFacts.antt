@@ -52,13 +52,18 @@ line-told {read} {written} {p} {n} line more answer after no-end is told = go (t
   where
     grown : (whole : List ℕ) → HasNoEnd whole → IsAnswer p (n + 1) whole answer after → told .rest ≡ whole ++ (10 ∷ more) → Told read (written ++ answer) after (n + 1) more
     grown whole none-there answers rest-is =
+        let so-far = told .answered in
         record {
-          first = told .first;
-          closed = told .closed;
-          lines = told .lines ++ (whole ++ (10 ∷ []));
           rest = more;
-          all = told .all ∙ ap (λ (l : List ℕ). told .lines ++ l) (rest-is ∙ sym (append-assoc whole (10 ∷ []) more)) ∙ sym (append-assoc (told .lines) (whole ++ (10 ∷ [])) more);
-          transcript = next (told .transcript) whole answer after none-there answers;
+          answered =
+              record {
+                first = so-far .first;
+                closed = so-far .closed;
+                lines = so-far .lines ++ (whole ++ (10 ∷ []));
+                all = so-far .all ∙ ap (λ (l : List ℕ). so-far .lines ++ l) (rest-is ∙ sym (append-assoc whole (10 ∷ []) more))
+                    ∙ sym (append-assoc (so-far .lines) (whole ++ (10 ∷ [])) more);
+                transcript = next (so-far .transcript) whole answer after none-there answers;
+              };
           stands = inl refl;
         }
 
@@ -76,13 +81,17 @@ line-told {read} {written} {p} {n} line more answer after no-end is told = go (t
 -- bytes are read behind those kept
 pub read-told : {read written : List ℕ} {p : Planner} {n : ℕ} {kept : List ℕ} (bytes : List ℕ) → Told read written p n kept → Told (read ++ bytes) written p n (kept ++ bytes)
 read-told {kept = kept} bytes told =
+    let so-far = told .answered in
     record {
-      first = told .first;
-      closed = told .closed;
-      lines = told .lines;
       rest = told .rest ++ bytes;
-      all = ap (λ (l : List ℕ). l ++ bytes) (told .all) ∙ append-assoc (told .lines) (told .rest) bytes;
-      transcript = told .transcript;
+      answered =
+          record {
+            first = so-far .first;
+            closed = so-far .closed;
+            lines = so-far .lines;
+            all = ap (λ (l : List ℕ). l ++ bytes) (so-far .all) ∙ append-assoc (so-far .lines) (told .rest) bytes;
+            transcript = so-far .transcript;
+          };
       stands = go (told .stands);
     }
   where
@@ -102,15 +111,7 @@ read-told {kept = kept} bytes told =
 -- where no line end is left, the first 64 bytes stand for all
 pub cut-told : {read written : List ℕ} {p : Planner} {n : ℕ} {kept : List ℕ} → HasNoEnd kept → Told read written p n kept → Told read written p n (take 64 kept)
 cut-told {kept = kept} no-end told =
-    record {
-      first = told .first;
-      closed = told .closed;
-      lines = told .lines;
-      rest = told .rest;
-      all = told .all;
-      transcript = told .transcript;
-      stands = go (told .stands);
-    }
+    record { rest = told .rest; answered = told .answered; stands = go (told .stands) }
   where
     whole-or-cut : (l : List ℕ) → HasNoEnd l → Dec (length l < 64) → (take 64 l ≡ l) ⊎ IsCut (take 64 l) l
     whole-or-cut l none-there (yes short) = inl (take-all 64 l (omega arith))
@@ -170,16 +171,12 @@ none-left {read} {written} {p} {n} told = go (told .stands)
     go : ([] ≡ told .rest) ⊎ IsCut [] (told .rest) → ToldAll read written
     go (inl same) =
         record {
-          first = told .first;
-          closed = told .closed;
-          lines = told .lines;
           rest = told .rest;
-          all = told .all;
           no-end = subst HasNoEnd same (λ k low within ends. lt-irrefl 0 (omega (arith, within)));
           p = p;
           n = n;
           answers = written;
-          transcript = told .transcript;
+          answered = told .answered;
           nothing-left = λ _. refl;
           last-line = λ some. absurd (some (sym same));
         }
@@ -192,16 +189,12 @@ module _ {read written : List ℕ} {p : Planner} {n : ℕ} {kept : List ℕ} (to
       ended : HasNoEnd (told .rest) → (told .rest ≡ [] → ⊥) → IsAnswer p (n + 1) (told .rest) answer after → ToldAll read (written ++ answer)
       ended none-there left answers =
           record {
-            first = told .first;
-            closed = told .closed;
-            lines = told .lines;
             rest = told .rest;
-            all = told .all;
             no-end = none-there;
             p = p;
             n = n;
             answers = written;
-            transcript = told .transcript;
+            answered = told .answered;
             nothing-left = λ nothing. absurd (left nothing);
             last-line = λ _. (answer, (after, (answers, refl)));
           }

@@ -55,7 +55,7 @@ struct Script {
 }
 
 /// The kinds of stretches.
-const KINDS: [fn(&mut Script); 17] = [
+const KINDS: [fn(&mut Script); 21] = [
     uniform,
     uniform,
     demand_edge,
@@ -73,6 +73,10 @@ const KINDS: [fn(&mut Script); 17] = [
     bad_values,
     closed,
     no_stream,
+    no_stream,
+    no_stream,
+    no_stream_at_end,
+    no_stream_at_end,
 ];
 
 /// A script of so many lines, the same for the same seed. One script in four
@@ -800,23 +804,55 @@ fn closed(script: &mut Script) {
     }
 }
 
-/// Rounds with no stream held, before the first add and after the last remove.
+/// Rounds with no stream held, which the gap alone forces: before the first
+/// add and after the last removal, a few times over.
 fn no_stream(script: &mut Script) {
     let superframe = script.random.pick(&[1, 12, 60, 240]);
     let slots = script.random.pick(&[1, 2, 64]);
-    let gap = script.gap();
-    let time = script
-        .random
-        .pick(&[0, 1, 500_000_000, LAST_START - 1, LAST_START]);
+    let (gap, time) = (script.gap(), script.time());
     script.open(slots, superframe, gap, time);
-    script.round();
-    script.add_any(1, 240);
-    if script.random.chance(50) {
-        script.round();
+    script.some_rounds(8);
+    for _ in 0..script.random.between(1, 3) {
+        for _ in 0..script.random.between(1, 4) {
+            script.add_any(1, 240);
+        }
+        script.some_rounds(4);
+        none_left(script);
+        script.some_rounds(8);
+        script.stray();
     }
-    for _ in 0..3 {
-        script.remove_any();
-        script.round();
+}
+
+/// The same at the clock's end: empty rounds until 17, an urgent stream that
+/// brings the start back, and 17 again without it.
+fn no_stream_at_end(script: &mut Script) {
+    let superframe = script.random.pick(&[1, 12, 60, 240]);
+    let slots = script.random.between(1, 3);
+    let gap = script.gap();
+    let rounds = script.random.between(0, 12);
+    let short = script.random.pick(&[0, 1, gap - 1]);
+    script.open(slots, superframe, gap, LAST_START - gap * rounds - short);
+    script.rounds(rounds + 1);
+    for _ in 0..script.random.between(1, 3) {
+        let period = script.period(1, 240);
+        let (id, start) = (script.free_id(), script.now() + script.random.between(0, 3));
+        script.add(id, start, period, 1);
+        script.some_rounds(2);
+        none_left(script);
+        script.rounds(2);
+    }
+}
+
+/// Removes every stream, at times with a round between.
+fn none_left(script: &mut Script) {
+    while let Some(id) = script.held_id() {
+        if script.full() {
+            return;
+        }
+        script.remove(id);
+        if script.random.chance(30) {
+            script.round();
+        }
     }
 }
 

@@ -177,16 +177,13 @@ impl Planner {
         0
     }
 
-    /// "It refuses 5; 15 with no stream held; 16 for a buffer shorter than B;
-    /// 17 if the start is after 1,000,000,000. The answer is the start and
-    /// the count n; the ids stand in the first n places, and later places are
-    /// untouched."
+    /// "It refuses 5; .. 16 for a buffer shorter than B; 17 if the start is
+    /// after 1,000,000,000. The answer is the start and the count n; the ids
+    /// stand in the first n places, and later places are untouched." With no
+    /// stream the cap is all that the lazy rule is left with (document 02, i).
     pub fn round(&mut self, buffer: &mut [u16]) -> Result<(u64, usize), u32> {
         if self.is_closed() {
             return Err(5);
-        }
-        if self.streams.is_empty() {
-            return Err(15);
         }
         if (buffer.len() as u64) < self.slots {
             return Err(16);

@@ -10,13 +10,14 @@ use std::process::ExitCode;
 
 /// Runs every check and says which ones fail.
 pub fn run() -> ExitCode {
-    let checks: [(&str, fn() -> bool); 9] = [
+    let checks: [(&str, fn() -> bool); 10] = [
         ("the three rounds and the other tables on the edge", tables),
         ("figure 9 of document 004", figure_9),
         ("superframe", superframes),
         ("lines", lines),
         ("numbers", numbers),
         ("the closed planner and the clock's end", closed_and_end),
+        ("rounds with no stream", no_streams),
         ("the slot buffer", buffer),
         ("generated scripts against a simulation", simulated),
         ("every answer in 20,000 generated lines", every_answer),
@@ -143,7 +144,7 @@ fn closed_and_end() -> bool {
     gives("A,0,0,0,0 / D,0 / R", "A,0,5 / D,0,5 / R,5")
         && gives(
             "O,1,1,1,0 / O,1,1,1 / R / O,0,0,0,0 / R",
-            "O,0 / E,20,2 / R,15 / O,1 / R,5",
+            "O,0 / E,20,2 / R,0,1,0 / O,1 / R,5",
         )
         && gives(
             "O,0,0,0,1000000001 / O,1,0,0,1000000001 / O,1,1,0,1000000001 / O,1,1,1,1000000001",
@@ -151,7 +152,7 @@ fn closed_and_end() -> bool {
         )
         && gives(
             "O,1,1,1,1000000000 / R / A,1,1000000000,1,1 / A,1,1000000001,1,1 / R",
-            "O,0 / R,15 / A,1,11 / A,1,0 / R,17",
+            "O,0 / R,17 / A,1,11 / A,1,0 / R,17",
         )
         && gives(
             "O,1,240,255,999999990 / A,1,999999991,240,240 / R / A,2,999999995,240,2 / R / R",
@@ -159,13 +160,25 @@ fn closed_and_end() -> bool {
         )
 }
 
-/// "16 for a buffer shorter than B", after 15 and before 17; "later places
-/// are untouched".
+/// "A round on an empty table is now held at L + G .. with no slots. It also
+/// applies after the last stream has been removed."
+fn no_streams() -> bool {
+    gives(
+        "O,2,6,6,0 / R / R / R / A,1,19,3,2 / R / D,1 / R",
+        "O,0 / R,0,6,0 / R,0,12,0 / R,0,18,0 / A,1,0 / R,0,20,1,1 / D,1,0 / R,0,26,0",
+    ) && gives("O,2,6,2,999999998 / R / R", "O,0 / R,0,1000000000,0 / R,17")
+        && gives("O,2,6,3,999999998 / R", "O,0 / R,17")
+}
+
+/// "16 for a buffer shorter than B", before 17, also where nothing is to be
+/// written; "later places are untouched".
 fn buffer() -> bool {
-    let (mut planner, _) = Planner::open(2, 1, 1, planner::LAST_START - 1);
+    let (mut planner, _) = Planner::open(2, 1, 1, planner::LAST_START - 2);
     let mut short = [7_u16; 1];
     let mut long = [7_u16; 3];
-    let none = planner.round(&mut short) == Err(15);
+    let none = planner.round(&mut short) == Err(16)
+        && planner.round(&mut long) == Ok((planner::LAST_START - 1, 0))
+        && long == [7, 7, 7];
     planner.add(5, planner::LAST_START, 1, 1);
     let too_short = planner.round(&mut short) == Err(16);
     let held = planner.round(&mut long) == Ok((planner::LAST_START, 1));
@@ -271,11 +284,15 @@ fn served(table: &Planner, moment: u64) -> bool {
     true
 }
 
-/// A script of 20,000 lines gives each answer that can occur a dozen times.
+/// A script of 20,000 lines gives each answer that can occur a dozen times,
+/// and none that cannot: 15 went with document 02, (i); the program's buffer
+/// is never too short; 18 and 19 are the superframe's.
 fn every_answer() -> bool {
     let counts = Counts::of(&program::run(&generate::script(1, 20_000)));
-    let possible = (0..=15).chain([17, 20]);
-    possible
+    let possible = (0..=14).chain([17, 20]);
+    let enough = possible
         .into_iter()
-        .all(|number| counts.total(number) >= 12)
+        .all(|number| counts.total(number) >= 12);
+    let impossible = [15, 16, 18, 19];
+    enough && impossible.iter().all(|number| counts.total(*number) == 0)
 }

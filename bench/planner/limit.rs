@@ -457,9 +457,6 @@ impl Limit {
         let mut rows: [u8; 64] = scratch();
         let n = unsafe { chosen(&c, p.count, slots, start as i16, &mut rows) };
         let start = p.last + 1 + start;
-        if p.count == 0 {
-            return refused(15);
-        }
         if buffer.len() < slots {
             return refused(16);
         }

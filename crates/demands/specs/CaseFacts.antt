@@ -19,7 +19,7 @@ use Rattle.planner.specs.Content.{Content, content, now-of, cap-of}
 use Rattle.planner.specs.Sound.{ContentSound, Sound}
 use Rattle.planner.specs.SoundFacts.{all-formed, fits-now, frame-is-busy}
 use Rattle.planner.specs.Open.{open-refusals}
-use Rattle.planner.specs.Calls.{added, unsound, bad-id, id-held, full, bad-period, bad-deadline, bad-start, breaks-demand, breaks-start, IsAdd}
+use Rattle.planner.specs.Calls.{added, unsound, bad-id, id-held, full, bad-period, bad-deadline, bad-start, breaks-demand, breaks-start, not-held, IsChange, IsAdd, IsRemove}
 use Rattle.planner.specs.Round.{IsStart, ids-at, rounded, IsRound}
 use Rattle.planner.specs.CallFacts.{refused-change, success-change, refused-round, success-round, held-exactly, seventeen-exactly}
 use Rattle.planner.specs.declared.Planner.{Planner}
@@ -118,31 +118,40 @@ add-test h id start period deadline answer =
     passes (offer-refusals h id start period deadline)
     && (is-askable (added h id start period deadline) && eqb (rules-answer (added h id start period deadline)) answer)
 
--- what the planner holds after that answer
-abbrev pub after-add : Content → ℕ → ℕ → ℕ → ℕ → ℕ → Content
-after-add h id start period deadline answer = cond (eqb answer 0) (added h id start period deadline) h
+pub add-answered : (p : Planner) → Sound p → (id start period deadline answer : ℕ) → So (add-test (content p) id start period deadline answer)
+    → (r : Changed) → IsAdd p id start period deadline r → r .answer ≡ answer
+unfolding add-test AllPass
+add-answered p sound id start period deadline answer tested r is =
+    let with-it = added (content p) id start period deadline in
+    let offer : So (passes (offer-refusals (content p) id start period deadline)) × So (is-askable with-it && eqb (rules-answer with-it) answer) = both tested in
+    let rules : So (is-askable with-it) × So (eqb (rules-answer with-it) answer) = both (offer .1) in
+    is .answer
+    ∙ answer-after (unsound p ∷ offer-refusals (content p) id start period deadline) (breaks-demand with-it ∷ breaks-start with-it ∷ [])
+    (λ fails. fails sound, tested-pass (offer-refusals (content p) id start period deadline) (offer .0))
+    ∙ rules-answered with-it (rules .0)
+    ∙ eqb-true (rules-answer with-it) answer (rules .1)
 
-module _ (p : Planner) (sound : Sound p) (id start period deadline answer : ℕ) (tested : So (add-test (content p) id start period deadline answer))
-    (r : Changed) (is : IsAdd p id start period deadline r)
+-- a removal gets this answer
+unfoldable pub remove-test : Content → ℕ → ℕ → Bool
+unfolding answer-of ℕ-discrete Dec·not
+remove-test h id answer = eqb (answer-of (not-held id h ∷ [])) answer
+
+pub remove-answered : (p : Planner) → Sound p → (id answer : ℕ) → So (remove-test (content p) id answer) → (r : Changed) → IsRemove p id r → r .answer ≡ answer
+unfolding remove-test
+remove-answered p sound id answer tested r is =
+    is .answer ∙ answer-later (unsound p) (not-held id (content p) ∷ []) (λ fails. fails sound) ∙ eqb-true (answer-of (not-held id (content p) ∷ [])) answer tested
+
+-- what a planner that held h holds after this answer to a change that would have left `changed`
+abbrev pub after-change : Content → Content → ℕ → Content
+after-change h changed answer = cond (eqb answer 0) changed h
+
+pub change-leaves : {refusals : List Refusal} {p : Planner} {changed : Content} {r : Changed} → IsChange refusals p changed r → (answer : ℕ) → r .answer ≡ answer
+    → content (r .planner) ≡ after-change (content p) changed answer
+change-leaves {refusals} {p} {changed} {r} is answer answered = go (eqb answer 0) refl
   where
-    pub add-answered : r .answer ≡ answer
-    unfolding add-test AllPass
-    add-answered =
-        let with-it = added (content p) id start period deadline in
-        let offer : So (passes (offer-refusals (content p) id start period deadline)) × So (is-askable with-it && eqb (rules-answer with-it) answer) = both tested in
-        let rules : So (is-askable with-it) × So (eqb (rules-answer with-it) answer) = both (offer .1) in
-        is .answer
-        ∙ answer-after (unsound p ∷ offer-refusals (content p) id start period deadline) (breaks-demand with-it ∷ breaks-start with-it ∷ [])
-        (λ fails. fails sound, tested-pass (offer-refusals (content p) id start period deadline) (offer .0))
-        ∙ rules-answered with-it (rules .0)
-        ∙ eqb-true (rules-answer with-it) answer (rules .1)
-
-    pub add-leaves : content (r .planner) ≡ after-add (content p) id start period deadline answer
-    add-leaves = go (eqb answer 0) refl
-      where
-        go : (zero : Bool) → eqb answer 0 ≡ zero → content (r .planner) ≡ cond zero (added (content p) id start period deadline) (content p)
-        go true e = success-change is (add-answered ∙ eqb-true answer 0 e) .holds
-        go false e = ap content (refused-change is (λ zero. eqb-false answer 0 e (sym add-answered ∙ zero)))
+    go : (zero : Bool) → eqb answer 0 ≡ zero → content (r .planner) ≡ cond zero changed (content p)
+    go true e = success-change is (answered ∙ eqb-true answer 0 e) .holds
+    go false e = ap content (refused-change is (λ zero. eqb-false answer 0 e (sym answered ∙ zero)))
 
 -- the start, looked for in one frame of lengths
 unfoldable pub start-in : Content → ℕ
@@ -171,15 +180,15 @@ tested-ids (x ∷ xs) (y ∷ ys) tested =
     let split : So (eqb x y) × So (same-ids xs ys) = both tested in
     λ i. eqb-true x y (split .0) i ∷ tested-ids xs ys (split .1) i
 
--- with a stream held, the start is s, the clock reaches it, and its slots are these n ids
+-- the start is s, the clock reaches it, and its slots are these n ids
 unfoldable pub held-test : Content → ℕ → ℕ → List ℕ → Bool
 unfolding start-in same-ids slots in-order put-in-order goes-before riders Dec·and
-held-test h s n ids = (ltb 0 (length (h .table)) && (eqb (start-in h) s && leb s 1_000_000_000)) && (eqb (length ids) n && same-ids (ids-at h s) ids)
+held-test h s n ids = (eqb (start-in h) s && leb s 1_000_000_000) && (eqb (length ids) n && same-ids (ids-at h s) ids)
 
--- with a stream held, the start is after the last one
+-- the start is after the last one
 unfoldable pub late-test : Content → Bool
 unfolding start-in
-late-test h = ltb 0 (length (h .table)) && ltb 1_000_000_000 (start-in h)
+late-test h = ltb 1_000_000_000 (start-in h)
 
 module _ (p : Planner) (sound : Sound p) (before after : List ℕ) (r : Rounded) (long : p .slots ≤ length before) (is : IsRound p before after r) where
   pub round-held : (s n : ℕ) (ids : List ℕ) → So (held-test (content p) s n ids)
@@ -187,12 +196,11 @@ module _ (p : Planner) (sound : Sound p) (before after : List ℕ) (r : Rounded)
   unfolding held-test
   round-held s n ids tested =
       let h = content p in
-      let split : So (ltb 0 (length (h .table)) && (eqb (start-in h) s && leb s 1_000_000_000)) × So (eqb (length ids) n && same-ids (ids-at h s) ids) = both tested in
-      let some : So (ltb 0 (length (h .table))) × So (eqb (start-in h) s && leb s 1_000_000_000) = both (split .0) in
-      let at : So (eqb (start-in h) s) × So (leb s 1_000_000_000) = both (some .1) in
+      let split : So (eqb (start-in h) s && leb s 1_000_000_000) × So (eqb (length ids) n && same-ids (ids-at h s) ids) = both tested in
+      let at : So (eqb (start-in h) s) × So (leb s 1_000_000_000) = both (split .0) in
       let places : So (eqb (length ids) n) × So (same-ids (ids-at h s) ids) = both (split .1) in
       let start : IsStart h s = subst (IsStart h) (eqb-true (start-in h) s (at .0)) (start-in-is-start h (sound .content-sound)) in
-      let zero = is .answer ∙ held-exactly p before sound (ltb-true 0 (length (h .table)) (some .0)) long s start .1 (leb-true s 1_000_000_000 (at .1)) in
+      let zero = is .answer ∙ held-exactly p before sound long s start .1 (leb-true s 1_000_000_000 (at .1)) in
       let w = success-round is zero in
       let same : r .start ≡ s = lazy-unique (h .slots) (cap-of h) (h .table) (r .start) s (w .start) start in
       let written : ids-at h (r .start) ≡ ids = ap (ids-at h) same ∙ tested-ids (ids-at h s) ids (places .1) in (
@@ -204,8 +212,6 @@ module _ (p : Planner) (sound : Sound p) (before after : List ℕ) (r : Rounded)
   unfolding late-test
   round-late tested =
       let h = content p in
-      let split : So (ltb 0 (length (h .table))) × So (ltb 1_000_000_000 (start-in h)) = both tested in
-      let some = ltb-true 0 (length (h .table)) (split .0) in
       let seventeen : r .answer ≡ 17 =
-      is .answer ∙ seventeen-exactly p before sound some long (start-in h) (start-in-is-start h (sound .content-sound)) .1 (ltb-true 1_000_000_000 (start-in h) (split .1)) in
+      is .answer ∙ seventeen-exactly p before sound long (start-in h) (start-in-is-start h (sound .content-sound)) .1 (ltb-true 1_000_000_000 (start-in h) tested) in
       (seventeen, refused-round is (λ zero. omega (arith, seventeen, zero)) .planner)

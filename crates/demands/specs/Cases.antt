@@ -1,4 +1,4 @@
--- The starred cases of document 01, "Tables on the edge", as one table over the contracts of the calls.
+-- The starred cases of document 01, "Tables on the edge", as one table over the contracts of the calls, and those of document 02 as another.
 use mathlib.Core.Path.{_≡_, refl, ap, subst⁻¹, _∙_}
 use mathlib.Core.Bool.{Bool, true, _&&_, So, So-prop}
 use mathlib.Core.List.{List, [], _∷_, List·Mem, not-mem-nil, forall-mem-cons}
@@ -7,6 +7,7 @@ use lib.Dec.{eqb}
 use lib.ListN.{length, take}
 use borrow.Author.Tests.{eqb-true}
 use Rattle.rules.specs.Slots.{after-round}
+use Rattle.table.specs.Changes.{without-id}
 use Rattle.rules.specs.Tests.{both}
 use Rattle.superframe.specs.Superframe.{superframe-of, packed}
 use Rattle.superframe.specs.SuperframeTests.{superframe-test, tested-superframe}
@@ -14,17 +15,18 @@ use Rattle.planner.specs.Content.{Content, content}
 use Rattle.planner.specs.Sound.{Sound}
 use Rattle.planner.specs.Open.{opened, IsOpened}
 use Rattle.planner.specs.OpenFacts.{open-success-is-sound}
-use Rattle.planner.specs.Calls.{IsAdd}
+use Rattle.planner.specs.Calls.{added, removed, IsAdd, IsRemove}
 use Rattle.planner.specs.Round.{rounded, IsRound}
 use Rattle.planner.specs.CallFacts.{change-keeps-sound, round-keeps-sound}
 use Rattle.planner.specs.declared.Planner.{Planner}
 use Rattle.planner.specs.declared.Changed.{Changed}
 use Rattle.planner.specs.declared.Rounded.{Rounded}
-use Rattle.demands.specs.CaseFacts.{open-test, open-succeeds, add-test, after-add, add-answered, add-leaves, held-test, late-test, round-held, round-late}
+use Rattle.demands.specs.CaseFacts.{open-test, open-succeeds, add-test, add-answered, remove-test, remove-answered, after-change, change-leaves, held-test, late-test, round-held, round-late}
 
 -- A line of a case: a call, and what it answers.
 pub data Line : Type 0 where
   add-gives : (id start period deadline answer : ℕ) → Line
+  remove-gives : (id answer : ℕ) → Line
   round-gives : (start n : ℕ) (ids : List ℕ) → Line
   round-refused : (answer : ℕ) → Line
 
@@ -34,6 +36,7 @@ unfoldable pub Answers : Planner → List Line → Type 0
 Answers p [] = Unit {0}
 Answers p (add-gives id start period deadline answer ∷ lines) =
     (r : Changed) → IsAdd p id start period deadline r → (r .answer ≡ answer) × Answers (r .planner) lines
+Answers p (remove-gives id answer ∷ lines) = (r : Changed) → IsRemove p id r → (r .answer ≡ answer) × Answers (r .planner) lines
 Answers p (round-gives start n ids ∷ lines) =
     (before after : List ℕ) (r : Rounded) → p .slots ≤ length before → IsRound p before after r
     → ((r .answer ≡ 0) × (r .start ≡ start) × (r .n ≡ n) × (take (r .n) after ≡ ids)) × Answers (r .planner) lines
@@ -71,12 +74,23 @@ starred =
     ∷ superframe-case (240 ∷ 7 ∷ 11 ∷ []) 19 0
     ∷ []
 
+-- 02 (i): B=2, F=6, G=6, T=0: O,2,6,6,0 / R / R / R / A,1,19,3,2 / R / D,1 / R print R,0,6,0 / R,0,12,0 / R,0,18,0, then with the stream
+-- R,0,20,1,1, since its packet is due at 21, and without it R,0,26,0, at the cap again.
+-- T=999,999,998, G=2: a round at 1,000,000,000, then 17.
+unfoldable pub later : List Case
+later =
+    planner-case 2 6 6 0
+    (round-gives 6 0 [] ∷ round-gives 12 0 [] ∷ round-gives 18 0 [] ∷ add-gives 1 19 3 2 0 ∷ round-gives 20 1 (1 ∷ []) ∷ remove-gives 1 0 ∷ round-gives 26 0 [] ∷ [])
+    ∷ planner-case 2 6 2 999_999_998 (round-gives 1_000_000_000 0 [] ∷ round-refused 17 ∷ [])
+    ∷ []
+
 -- a test of the lines, by what the planner holds
 unfoldable lines-test : Content → List Line → Bool
-unfolding add-test held-test late-test after-round
+unfolding add-test remove-test without-id held-test late-test after-round
 lines-test h [] = true
 lines-test h (add-gives id start period deadline answer ∷ lines) =
-    add-test h id start period deadline answer && lines-test (after-add h id start period deadline answer) lines
+    add-test h id start period deadline answer && lines-test (after-change h (added h id start period deadline) answer) lines
+lines-test h (remove-gives id answer ∷ lines) = remove-test h id answer && lines-test (after-change h (removed h id) answer) lines
 lines-test h (round-gives start n ids ∷ lines) = held-test h start n ids && lines-test (rounded h start) lines
 lines-test h (round-refused answer ∷ lines) = (eqb 17 answer && late-test h) && lines-test h lines
 
@@ -84,12 +98,17 @@ tested-lines : (lines : List Line) (p : Planner) → Sound p → So (lines-test 
 unfolding lines-test Answers
 tested-lines [] p sound tested = tt
 tested-lines (add-gives id start period deadline answer ∷ lines) p sound tested =
-    let split : So (add-test (content p) id start period deadline answer) × So (lines-test (after-add (content p) id start period deadline answer) lines) = both tested in
-    λ r is. (
-      add-answered p sound id start period deadline answer (split .0) r is,
-      tested-lines lines (r .planner) (change-keeps-sound is sound)
-          (subst⁻¹ (λ (h : Content). So (lines-test h lines)) (add-leaves p sound id start period deadline answer (split .0) r is) (split .1)),
-    )
+    let left = after-change (content p) (added (content p) id start period deadline) answer in
+    let split : So (add-test (content p) id start period deadline answer) × So (lines-test left lines) = both tested in
+    λ r is.
+    let answered = add-answered p sound id start period deadline answer (split .0) r is in
+    (answered, tested-lines lines (r .planner) (change-keeps-sound is sound) (subst⁻¹ (λ (h : Content). So (lines-test h lines)) (change-leaves is answer answered) (split .1)))
+tested-lines (remove-gives id answer ∷ lines) p sound tested =
+    let left = after-change (content p) (removed (content p) id) answer in
+    let split : So (remove-test (content p) id answer) × So (lines-test left lines) = both tested in
+    λ r is.
+    let answered = remove-answered p sound id answer (split .0) r is in
+    (answered, tested-lines lines (r .planner) (change-keeps-sound is sound) (subst⁻¹ (λ (h : Content). So (lines-test h lines)) (change-leaves is answer answered) (split .1)))
 tested-lines (round-gives start n ids ∷ lines) p sound tested =
     let split : So (held-test (content p) start n ids) × So (lines-test (rounded (content p) start) lines) = both tested in
     λ before after r long is.
@@ -137,3 +156,7 @@ tested-cases (x ∷ cs) tested =
 pub starred-hold : (c : Case) → List·Mem c starred → Holds c
 unfolding starred all-test
 starred-hold c m = tested-case c (tested-cases starred refl c m)
+
+pub later-hold : (c : Case) → List·Mem c later → Holds c
+unfolding later all-test
+later-hold c m = tested-case c (tested-cases later refl c m)

@@ -1,15 +1,17 @@
--- Demand 3: "For every sound planner with a stream in its table and every list of add, remove and round calls from there, refused ones included,
--- whatever they pass, in which no add or remove succeeds: after it, every packet due by the end of the last round has been sent in time, and once
--- a round was refused because the clock is at its end, every packet due by that end; and for every k up to the number of rounds held, the k-th
--- starts no earlier than the k-th round of every endless plan from that point which meets all deadlines and the gap limit, however that plan
--- fills its slots."
-use mathlib.Core.Path.{subst⁻¹}
-use mathlib.Core.List.{List, List·Mem}
+-- Demand 3: "For every sound planner .. and every list of add, remove and round calls from there, refused ones included, whatever they pass, in
+-- which no add or remove succeeds: after it, every packet due by the end of the last round has been sent in time, and once a round was refused
+-- because the clock is at its end, every packet due by that end; and for every k up to the number of rounds held, the k-th starts no earlier than
+-- the k-th round of every endless plan from that point which meets all deadlines and the gap limit, however that plan fills its slots."
+-- 00 asks it of planners with a stream; 02 (i) takes that condition away.
+use mathlib.Core.Path.{_≡_, subst, subst⁻¹}
+use mathlib.Core.Logic.{∥∥₁-elim}
+use mathlib.Core.HLevel.{⊥-prop}
+use mathlib.Core.List.{List, [], List·Mem, not-mem-nil}
 use Prim.Native.Nat.{ℕ, _≤_, _<_}
 use native.Mathlib.Omega.{arith}
 use lib.ListN.{length}
-use Rattle.rules.specs.Streams.{Stream, packet}
-use Rattle.rules.specs.Plans.{Round, IsRival}
+use Rattle.rules.specs.Streams.{Stream, Packet, packet, PacketOf}
+use Rattle.rules.specs.Plans.{Round, IsPlan, KeepsGap, IsRival}
 use Rattle.rules.specs.LazyStart.{lazy-fits}
 use Rattle.planner.specs.Content.{Content, content, now-of, cap-of}
 use Rattle.planner.specs.Sound.{Sound}
@@ -25,8 +27,8 @@ pub record Kept (h : Content) {p q : Planner} {rounds : List HeldRound} (calls :
   pub fewest : (plan : ℕ → Round) → IsRival (h .slots) (now-of h) (cap-of h) (h .gap) (h .table) plan → (k : ℕ) → k < length rounds → plan k .start ≤ start-of rounds k
   pub none-wasted : (s : Stream) → List·Mem s (h .table) → (m : ℕ) → m < times-sent (s .number) rounds → IsSentInTime rounds s m
 
-pub demand-3 : (p : Planner) → Sound p → 1 ≤ length (content p .table) → (rounds : List HeldRound) (q : Planner) (calls : Calls p rounds q) → Kept (content p) calls
-demand-3 p sound some rounds q calls =
+pub demand-3 : (p : Planner) → Sound p → (rounds : List HeldRound) (q : Planner) (calls : Calls p rounds q) → Kept (content p) calls
+demand-3 p sound rounds q calls =
     let (sound-after, follows) = calls-follow p sound calls in
     let sent = sent-unless-later (content p) rounds (content q) follows (sound-after .content-sound) in
     record {
@@ -41,3 +43,12 @@ demand-3 p sound some rounds q calls =
       fewest = rival-never-later (content p) rounds (content q) follows (sound .content-sound);
       none-wasted = follows .in-time;
     }
+
+-- With no stream every plan from now that keeps the gap limit is a rival, so none of them holds its k-th round later.
+pub fewest-without-streams : (p : Planner) → Sound p → content p .table ≡ [] → (rounds : List HeldRound) (q : Planner) → Calls p rounds q → (plan : ℕ → Round)
+    → IsPlan (p .slots) (now-of (content p)) plan → KeepsGap (cap-of (content p)) (p .gap) plan → (k : ℕ) → k < length rounds → plan k .start ≤ start-of rounds k
+fewest-without-streams p sound empty rounds q calls plan is-plan keeps-gap =
+    demand-3 p sound rounds q calls .fewest plan (record { is-plan = is-plan; serves = λ one is. absurd (none-of one is); keeps-gap = keeps-gap })
+  where
+    none-of : (one : Packet) → PacketOf (content p .table) one → ⊥
+    none-of one is = ∥∥₁-elim is ⊥-prop (λ w. not-mem-nil (subst (λ (ss : List Stream). List·Mem (w .0) ss) empty (w .1)))

@@ -1,7 +1,7 @@
 -- Demand 2: "Each round's start and slots are those of the lazy rule with earliest deadline first, equal deadlines by smaller id. A well-formed
 -- new stream, offered to a sound planner with a place free, is refused exactly when no plan serves the table, all starts put together, or none
 -- serves it from now on with the packets now held."
-use mathlib.Core.Path.{_≡_, sym, subst⁻¹, _∙_}
+use mathlib.Core.Path.{_≡_, refl, sym, ap, subst⁻¹, _∙_}
 use mathlib.Core.Logic.{_⊎_, inl, inr, _↔_, _∨₁_, Or·inl, Or·inr, Or·elim}
 use mathlib.Core.HLevel.{⊥-prop}
 use mathlib.Core.List.{List, [], _∷_, map, map-map}
@@ -11,18 +11,20 @@ use lib.ListN.{length, take, length-map}
 use Rattle.basics.specs.Refusals.{answer-of, answer-first, answer-later}
 use Rattle.rules.specs.Streams.{Stream, Packet, packet, IsTable, at-zero}
 use Rattle.rules.specs.Demand.{DemandRule, StartRule, DueAfter}
-use Rattle.rules.specs.Slots.{IsSlots, slots}
+use Rattle.rules.specs.Slots.{IsSlots, slots, after-round}
 use Rattle.rules.specs.Plans.{Servable}
+use Rattle.rules.specs.LazyStart.{lazy-unique}
 use Rattle.rules.specs.Decide.{decide-demand-rule, decide-start-rule}
 use Rattle.rules.specs.Exact.{demand-exact, demand-fails-exactly, start-exact, start-fails-exactly}
 use Rattle.rules.specs.SlotPackets.{slots-are-first}
-use Rattle.planner.specs.Content.{Content, content, now-of}
+use Rattle.planner.specs.Content.{Content, content, now-of, cap-of}
 use Rattle.planner.specs.Sound.{Sound}
 use Rattle.planner.specs.SoundFacts.{content-table, sound-start}
+use Rattle.planner.specs.Open.{opened}
 use Rattle.planner.specs.Calls.{offered, added, breaks-demand, breaks-start, add-refusals, IsOffer, IsSoundWith, IsAdd}
 use Rattle.planner.specs.Round.{IsStart, IsHeldRound, IsRound}
 use Rattle.planner.specs.TableFacts.{put-is-table, put-due-after}
-use Rattle.planner.specs.CallFacts.{success-change, success-round, held-exactly, seventeen-exactly}
+use Rattle.planner.specs.CallFacts.{success-change, success-round, held-exactly, seventeen-exactly, empty-start, empty-slots}
 use Rattle.planner.specs.AddFacts.{by-rules}
 use Rattle.planner.specs.ServeFacts.{due-after-start}
 use Rattle.planner.specs.declared.Planner.{Planner}
@@ -38,15 +40,26 @@ pub record WritesSlots (p : Planner) (after : List ℕ) (r : Rounded) : Type 0 w
   pub n : r .n ≡ length packets
   pub ids : take (r .n) after ≡ map (λ (q : Packet). q .number) packets
 
--- On a sound planner with a stream and a buffer of at least B places: there is a lazy start; held exactly if it is at most 1,000,000,000, and 17
--- if not; held, start, buffer and planner are those of the lazy rule and the slot rule, which `IsHeldRound` states, and the slots are those of 01,
--- said of all packets that may ride.
+-- What that comes to where there is no stream: the round is at L + G with no slots, nothing is written, and L alone moves; 17 where L + G is
+-- after the last start.
+pub record IsHeldAtCap (p : Planner) (before after : List ℕ) (r : Rounded) : Type 0 where
+  pub exactly : (r .answer ≡ 0) ↔ (cap-of (content p) ≤ 1_000_000_000)
+  pub seventeen : (r .answer ≡ 17) ↔ (1_000_000_000 < cap-of (content p))
+  pub start : r .answer ≡ 0 → r .start ≡ cap-of (content p)
+  pub n : r .answer ≡ 0 → r .n ≡ 0
+  pub buffer : r .answer ≡ 0 → after ≡ before
+  pub leaves : r .answer ≡ 0 → content (r .planner) ≡ opened (p .slots) (p .frame) (p .gap) (cap-of (content p))
+
+-- On every sound planner, with or without a stream, and a buffer of at least B places: there is a lazy start; held exactly if it is at most
+-- 1,000,000,000, and 17 if not; held, start, buffer and planner are those of the lazy rule and the slot rule, which `IsHeldRound` states, and the
+-- slots are those of 01, said of all packets that may ride.
 pub record RoundIsLazy (p : Planner) (before after : List ℕ) (r : Rounded) : Type 0 where
   pub has-start : (s : ℕ) × IsStart (content p) s
   pub exactly : (s : ℕ) → IsStart (content p) s → (r .answer ≡ 0) ↔ (s ≤ 1_000_000_000)
   pub seventeen : (s : ℕ) → IsStart (content p) s → (r .answer ≡ 17) ↔ (1_000_000_000 < s)
   pub held : r .answer ≡ 0 → IsHeldRound p before after r
   pub slots : r .answer ≡ 0 → WritesSlots p after r
+  pub without-streams : content p .table ≡ [] → IsHeldAtCap p before after r
 
 -- Some plan serves the table, all starts put together: every start and the moment at 0.
 abbrev pub ServableTogether : Content → Type 0
@@ -65,7 +78,7 @@ pub record AddIsExact (h : Content) (r : Changed) : Type 0 where
   pub stored : r .answer ≡ 0 → IsSoundWith h (r .planner)
 
 pub record Demand2 : Type 0 where
-  pub round-is-lazy : (p : Planner) → Sound p → 1 ≤ length (content p .table) → (before after : List ℕ) → content p .slots ≤ length before
+  pub round-is-lazy : (p : Planner) → Sound p → (before after : List ℕ) → content p .slots ≤ length before
       → (r : Rounded) → IsRound p before after r → RoundIsLazy p before after r
   pub add-is-exact : (p : Planner) → Sound p → (id start period deadline : ℕ) → IsOffer (content p) id start period deadline
       → (r : Changed) → IsAdd p id start period deadline r → AddIsExact (added (content p) id start period deadline) r
@@ -81,6 +94,29 @@ held-writes-slots p sound before after r held =
       n = held .n ∙ simp length-map;
       ids = ids-written p before after r held ∙ sym (map-map (λ (q : Packet). q .number) (λ (x : Stream). packet x 0) chosen);
     }
+
+module _ (p : Planner) (sound : Sound p) (before after : List ℕ) (long : content p .slots ≤ length before) (r : Rounded) (is : IsRound p before after r) where
+  held-if : (s : ℕ) → IsStart (content p) s → (r .answer ≡ 0) ↔ (s ≤ 1_000_000_000)
+  held-if s start = subst⁻¹ (λ (n : ℕ). (n ≡ 0) ↔ (s ≤ 1_000_000_000)) (is .answer) (held-exactly p before sound long s start)
+
+  late-if : (s : ℕ) → IsStart (content p) s → (r .answer ≡ 17) ↔ (1_000_000_000 < s)
+  late-if s start = subst⁻¹ (λ (n : ℕ). (n ≡ 17) ↔ (1_000_000_000 < s)) (is .answer) (seventeen-exactly p before sound long s start)
+
+  held-at-cap : content p .table ≡ [] → IsHeldAtCap p before after r
+  unfolding after-round
+  held-at-cap empty =
+      let h = content p in
+      let cap = empty-start h empty (sound .content-sound) in
+      let at-cap : (zero : r .answer ≡ 0) → r .start ≡ cap-of h = λ zero. lazy-unique (h .slots) (cap-of h) (h .table) (r .start) (cap-of h) (success-round is zero .start) cap in
+      let none : (zero : r .answer ≡ 0) → r .n ≡ 0 = λ zero. success-round is zero .n ∙ ap (length {A = ℕ}) (empty-slots h empty (r .start)) in
+      record {
+        exactly = held-if (cap-of h) cap;
+        seventeen = late-if (cap-of h) cap;
+        start = at-cap;
+        n = none;
+        buffer = λ zero. success-round is zero .buffer ∙ rw (empty-slots h empty (r .start), none zero) refl;
+        leaves = λ zero. success-round is zero .planner .holds ∙ rw (at-cap zero, empty) refl;
+      }
 
 -- the three outcomes of an offer, with what can be served in each
 by-outcome : (h : Content) (r : Changed) → (r .answer ≡ 0 → IsSoundWith h (r .planner))
@@ -160,13 +196,14 @@ module _ (p : Planner) (sound : Sound p) (id start period deadline : ℕ) (offer
 pub demand-2 : Demand2
 demand-2 =
     record {
-      round-is-lazy = λ p sound some before after long r is.
+      round-is-lazy = λ p sound before after long r is.
           record {
             has-start = sound-start p sound;
-            exactly = λ s start. subst⁻¹ (λ (n : ℕ). (n ≡ 0) ↔ (s ≤ 1_000_000_000)) (is .answer) (held-exactly p before sound some long s start);
-            seventeen = λ s start. subst⁻¹ (λ (n : ℕ). (n ≡ 17) ↔ (1_000_000_000 < s)) (is .answer) (seventeen-exactly p before sound some long s start);
+            exactly = held-if p sound before after long r is;
+            seventeen = late-if p sound before after long r is;
             held = success-round is;
             slots = λ zero. held-writes-slots p sound before after r (success-round is zero);
+            without-streams = held-at-cap p sound before after long r is;
           };
       add-is-exact = exact-add;
     }

@@ -1,18 +1,23 @@
 -- What follows from a call's contract in terms of its answer: a refused call changes nothing, and a sound planner stays sound.
-use mathlib.Core.Path.{_≡_, sym, subst, subst⁻¹, _∙_}
+use mathlib.Core.Path.{_≡_, refl, sym, subst, subst⁻¹, _∙_}
 use mathlib.Core.Logic.{_↔_, Dec·not-not}
 use mathlib.Core.List.{List, [], _∷_}
 use Prim.Native.Nat.{ℕ, _≤_, _<_}
 use native.Mathlib.Decide.{ℕ-discrete}
 use native.Mathlib.Omega.{arith}
 use lib.ListN.{length}
+use lib.Seq.{take-nil}
 use Rattle.basics.specs.Refusals.{Refusal, FirstOf, answer-of, answer-is-first, answer-first, answer-later, answer-zero, answer-other, AllPass, answer-after}
+use Rattle.rules.specs.Streams.{Stream}
+use Rattle.rules.specs.Demand.{future}
+use Rattle.rules.specs.Slots.{riders, in-order, slots}
 use Rattle.rules.specs.LazyStart.{lazy-unique}
-use Rattle.planner.specs.Content.{Content, content, cap-of}
-use Rattle.planner.specs.Sound.{Sound}
+use Rattle.table.specs.StartFacts.{nothing-due}
+use Rattle.planner.specs.Content.{Content, content, now-of, cap-of}
+use Rattle.planner.specs.Sound.{ContentSound, Sound}
 use Rattle.planner.specs.Decide.{decide-sound}
 use Rattle.planner.specs.Calls.{unsound, IsSoundWith, IsChange}
-use Rattle.planner.specs.Round.{IsStart, StartsLate, decide-late, no-stream-held, short-buffer, late-start, round-refusals, IsRefusedRound, IsHeldRound, IsRound}
+use Rattle.planner.specs.Round.{IsStart, StartsLate, decide-late, short-buffer, late-start, round-refusals, ids-at, IsRefusedRound, IsHeldRound, IsRound}
 use Rattle.planner.specs.declared.Planner.{Planner}
 use Rattle.planner.specs.declared.Changed.{Changed}
 use Rattle.planner.specs.declared.Rounded.{Rounded}
@@ -57,22 +62,21 @@ starts-late-iff p sound s start = (
 )
 
 module _ (p : Planner) (buffer : List ℕ) where
-  -- an answer other than 5, 15 and 16 is that of the last refusal
-  by-last-refusal : (n : ℕ) → (5 ≡ n → ⊥) → (15 ≡ n → ⊥) → (16 ≡ n → ⊥) → answer-of (round-refusals p buffer) ≡ n → answer-of (late-start p ∷ []) ≡ n
-  by-last-refusal n not-5 not-15 not-16 given =
-      let sound = answer-other n (unsound p) (no-stream-held (content p) ∷ short-buffer (content p) buffer ∷ late-start p ∷ []) not-5 given in
-      let some = answer-other n (no-stream-held (content p)) (short-buffer (content p) buffer ∷ late-start p ∷ []) not-15 (sound .1) in
-      answer-other n (short-buffer (content p) buffer) (late-start p ∷ []) not-16 (some .1) .1
+  -- an answer other than 5 and 16 is that of the last refusal
+  by-last-refusal : (n : ℕ) → (5 ≡ n → ⊥) → (16 ≡ n → ⊥) → answer-of (round-refusals p buffer) ≡ n → answer-of (late-start p ∷ []) ≡ n
+  by-last-refusal n not-5 not-16 given =
+      let sound = answer-other n (unsound p) (short-buffer (content p) buffer ∷ late-start p ∷ []) not-5 given in
+      answer-other n (short-buffer (content p) buffer) (late-start p ∷ []) not-16 (sound .1) .1
 
   -- a round that is held is held by a sound planner ..
   pub held-is-sound : answer-of (round-refusals p buffer) ≡ 0 → Sound p
   held-is-sound none =
       Dec·not-not (decide-sound p) .0
-      (answer-zero (unsound p) (no-stream-held (content p) ∷ short-buffer (content p) buffer ∷ late-start p ∷ []) (λ e. omega (arith, e)) none .0)
+      (answer-zero (unsound p) (short-buffer (content p) buffer ∷ late-start p ∷ []) (λ e. omega (arith, e)) none .0)
 
   -- .. that does not start late
   pub held-is-not-late : answer-of (round-refusals p buffer) ≡ 0 → StartsLate p → ⊥
-  held-is-not-late none = answer-zero (late-start p) [] (λ e. omega (arith, e)) (by-last-refusal 0 (λ e. omega (arith, e)) (λ e. omega (arith, e)) (λ e. omega (arith, e)) none) .0
+  held-is-not-late none = answer-zero (late-start p) [] (λ e. omega (arith, e)) (by-last-refusal 0 (λ e. omega (arith, e)) (λ e. omega (arith, e)) none) .0
 
   pub seventeen-is-late : answer-of (round-refusals p buffer) ≡ 17 → StartsLate p
   unfolding answer-of
@@ -81,16 +85,16 @@ module _ (p : Planner) (buffer : List ℕ) where
       go : Dec (StartsLate p) → StartsLate p
       go (yes late) = late
       go (no early) =
-          let last : answer-of [] ≡ 17 = sym (answer-later (late-start p) [] early) ∙ by-last-refusal 17 (λ e. omega (arith, e)) (λ e. omega (arith, e)) (λ e. omega (arith, e)) given in
+          let last : answer-of [] ≡ 17 = sym (answer-later (late-start p) [] early) ∙ by-last-refusal 17 (λ e. omega (arith, e)) (λ e. omega (arith, e)) given in
           absurd (omega (arith, last))
 
-  module _ (sound : Sound p) (some : 1 ≤ length (content p .table)) (long : content p .slots ≤ length buffer) (s : ℕ) (start : IsStart (content p) s) where
-    -- on a sound planner with a stream and a long enough buffer only 17 is left to be asked
+  module _ (sound : Sound p) (long : content p .slots ≤ length buffer) (s : ℕ) (start : IsStart (content p) s) where
+    -- on a sound planner with a long enough buffer only 17 is left to be asked
     only-17-left : answer-of (round-refusals p buffer) ≡ answer-of (late-start p ∷ [])
     unfolding AllPass
     only-17-left =
-        answer-after (unsound p ∷ no-stream-held (content p) ∷ short-buffer (content p) buffer ∷ []) (late-start p ∷ [])
-        (λ fails. fails sound, (λ none. omega (arith, none), (λ short. omega arith, tt)))
+        answer-after (unsound p ∷ short-buffer (content p) buffer ∷ []) (late-start p ∷ [])
+        (λ fails. fails sound, (λ short. omega arith, tt))
 
     -- so a round is refused with 17 exactly if the start is after the last one ..
     pub seventeen-exactly : (answer-of (round-refusals p buffer) ≡ 17) ↔ (1_000_000_000 < s)
@@ -109,3 +113,16 @@ module _ (p : Planner) (buffer : List ℕ) where
       where
         in-time : (1_000_000_000 < s → ⊥) → s ≤ 1_000_000_000
         in-time not-late = omega arith
+
+module _ (h : Content) (empty : h .table ≡ []) where
+  -- with no stream the lazy rule is left with the cap ..
+  pub empty-start : ContentSound h → IsStart h (cap-of h)
+  unfolding future
+  empty-start sound =
+      let gap = sound .in-range .gap .0 in
+      nothing-due (h .slots) (now-of h) (cap-of h) (h .table) (omega arith) (omega arith) (λ t. rw empty refl) .lazy (omega arith)
+
+  -- .. and the slots with nothing
+  pub empty-slots : (s : ℕ) → ids-at h s ≡ []
+  unfolding slots in-order riders
+  empty-slots s = rw (empty, take-nil {A = Stream} (h .slots)) refl

@@ -2,7 +2,7 @@
 use mathlib.Core.Path.{_≡_, subst}
 use mathlib.Core.List.{List, [], _∷_, _++_, map}
 use Prim.Native.Nat.{ℕ, _<_}
-use native.Mathlib.Decide.{decLt, ℕ-discrete}
+use native.Mathlib.Decide.{decLt}
 use lib.ListN.{length, drop}
 use Rattle.basics.specs.Refusals.{Refusal, answer-of}
 use Rattle.rules.specs.Streams.{Stream}
@@ -36,10 +36,6 @@ decide-late p (yes sound) = go (sound-start p sound)
         at (yes late) = yes (λ _ x is. subst (λ (y : ℕ). 1_000_000_000 < y) (lazy-unique (content p .slots) (cap-of (content p)) (content p .table) s x lazy is) late)
         at (no early) = no (λ all. early (all sound s lazy))
 
--- 01: "15 with no stream held".
-abbrev pub no-stream-held : Content → Refusal
-no-stream-held h = record { number = 15; Applies = length (h .table) ≡ 0; decided = ℕ-discrete (length (h .table)) 0 }
-
 -- 01: "16 for a buffer shorter than B".
 abbrev pub short-buffer : Content → List ℕ → Refusal
 short-buffer h buffer = record { number = 16; Applies = length buffer < h .slots; decided = decLt (length buffer) (h .slots) }
@@ -48,9 +44,9 @@ short-buffer h buffer = record { number = 16; Applies = length buffer < h .slots
 abbrev pub late-start : Planner → Refusal
 late-start p = record { number = 17; Applies = StartsLate p; decided = decide-late p (decide-sound p) }
 
--- 01: "It refuses 5; 15 ..; 16 ..; 17 ..".
+-- Refused, in this order: a planner that is not sound, a buffer shorter than B, a start after the last one. Whether there is a stream is not asked.
 abbrev pub round-refusals : Planner → List ℕ → List Refusal
-round-refusals p buffer = unsound p ∷ no-stream-held (content p) ∷ short-buffer (content p) buffer ∷ late-start p ∷ []
+round-refusals p buffer = unsound p ∷ short-buffer (content p) buffer ∷ late-start p ∷ []
 
 -- The ids that a round at s writes: those of its slots, in their order.
 abbrev pub ids-at : Content → ℕ → List ℕ

@@ -9,7 +9,7 @@ use Rattle.basics.specs.Refusals.{answer-of, answer-zero, none, here, later, fi
 use Rattle.planner.specs.Content.{content}
 use Rattle.planner.specs.Sound.{Sound}
 use Rattle.planner.specs.Calls.{unsound, IsSoundWith}
-use Rattle.planner.specs.Round.{no-stream-held, short-buffer, late-start, round-refusals, rounded, IsRound}
+use Rattle.planner.specs.Round.{short-buffer, late-start, round-refusals, rounded, IsRound}
 use Rattle.planner.specs.CallFacts.{starts-late-iff, held-is-sound, held-is-not-late}
 use Rattle.planner.specs.Inner.{CanChoose, CanServeAll, IsChosen, AreFound, IsSoundStart}
 use Rattle.planner.specs.declared.Planner.{Planner}
@@ -26,12 +26,9 @@ module _ (p : Planner) (start : ℕ) (test : IsSoundStart p start) where
     passes-5 : (Sound p → ⊥) → ⊥
     passes-5 not-sound = not-sound (test .sound some)
 
-    pub empty-table : length (content p .table) ≡ 0 → (buffer : List ℕ) → 15 ≡ answer-of (round-refusals p buffer)
-    empty-table empty buffer = first-is-answer (later passes-5 (here empty))
-
-    module _ (streams : length (content p .table) ≡ 0 → ⊥) (buffer : List ℕ) where
+    module _ (buffer : List ℕ) where
       pub too-short : length buffer < p .slots → 16 ≡ answer-of (round-refusals p buffer)
-      too-short short = first-is-answer (later passes-5 (later streams (here short)))
+      too-short short = first-is-answer (later passes-5 (here short))
 
       module _ (long : p .slots ≤ length buffer) where
         not-short : length buffer < p .slots → ⊥
@@ -39,13 +36,13 @@ module _ (p : Planner) (start : ℕ) (test : IsSoundStart p start) where
 
         pub too-late : 1_000_000_000 < start → 17 ≡ answer-of (round-refusals p buffer)
         too-late late =
-            first-is-answer (later passes-5 (later streams (later not-short
-            (here (starts-late-iff p (test .sound some) start (test .start some) .1 late)))))
+            first-is-answer (later passes-5 (later not-short
+            (here (starts-late-iff p (test .sound some) start (test .start some) .1 late))))
 
         pub round-passes : start ≤ 1_000_000_000 → 0 ≡ answer-of (round-refusals p buffer)
         round-passes early =
-            first-is-answer (later passes-5 (later streams (later not-short
-            (later (λ late. lt-irrefl 1_000_000_000 (omega (arith, early, late (test .sound some) start (test .start some)))) none))))
+            first-is-answer (later passes-5 (later not-short
+            (later (λ late. lt-irrefl 1_000_000_000 (omega (arith, early, late (test .sound some) start (test .start some)))) none)))
 
   module _ (buffer : List ℕ) (a : ℕ) (is : a ≡ answer-of (round-refusals p buffer)) where
     -- a refused round hands everything back
@@ -55,14 +52,11 @@ module _ (p : Planner) (start : ℕ) (test : IsSoundStart p start) where
 
     module _ (passed : a ≡ 0) where
       -- with answer 0 no refusal applies
-      after-5 : (((Sound p → ⊥) → ⊥) × (answer-of (no-stream-held (content p) ∷ short-buffer (content p) buffer ∷ late-start p ∷ []) ≡ 0))
-      after-5 = answer-zero (unsound p) (no-stream-held (content p) ∷ short-buffer (content p) buffer ∷ late-start p ∷ []) (λ e. lt-irrefl 0 (omega (arith, e))) (sym is ∙ passed)
-
-      after-15 : (length (content p .table) ≡ 0 → ⊥) × (answer-of (short-buffer (content p) buffer ∷ late-start p ∷ []) ≡ 0)
-      after-15 = answer-zero (no-stream-held (content p)) (short-buffer (content p) buffer ∷ late-start p ∷ []) (λ e. lt-irrefl 0 (omega (arith, e))) (after-5 .1)
+      after-5 : (((Sound p → ⊥) → ⊥) × (answer-of (short-buffer (content p) buffer ∷ late-start p ∷ []) ≡ 0))
+      after-5 = answer-zero (unsound p) (short-buffer (content p) buffer ∷ late-start p ∷ []) (λ e. lt-irrefl 0 (omega (arith, e))) (sym is ∙ passed)
 
       after-16 : (length buffer < p .slots → ⊥) × (answer-of (late-start p ∷ []) ≡ 0)
-      after-16 = answer-zero (short-buffer (content p) buffer) (late-start p ∷ []) (λ e. lt-irrefl 0 (omega (arith, e))) (after-15 .1)
+      after-16 = answer-zero (short-buffer (content p) buffer) (late-start p ∷ []) (λ e. lt-irrefl 0 (omega (arith, e))) (after-5 .1)
 
       is-sound : Sound p
       is-sound = held-is-sound p buffer (sym is ∙ passed)

@@ -135,10 +135,6 @@ fn round_refusal_tested(p: Planner, start: u32, length: usize) -> u32
     if start == 0 {
         return 5;
     }
-    let table = p.table;
-    if table.count == 0 {
-        return 15;
-    }
     if length < p.slots as usize {
         return 16;
     }

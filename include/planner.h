@@ -26,7 +26,7 @@
  * program without a C library has to have its own, as examples/c/freestanding.c has. No heap; no pointer is kept, and no call writes
  * anything but what it is lent and its stack. Every call returns, if these two do and the stack is large enough; nothing tests that it is.
  *
- * Stack, in bytes, return address and memcpy and memset of glibc included: open 856, add 18,904, remove 15,256, round 20,568, filled 24 (16
+ * Stack, in bytes, return address and memcpy and memset of glibc included: open 856, add 18,904, remove 15,256, round 20,520, filled 24 (16
  * of each are the measuring program's). Measured on a painted stack (`bash bench/stack`), the most over calls of every answer on a dozen
  * tables with up to 64 streams. That is this build, by the compiler that built it, and no promise: measure again what is linked, and leave
  * room above it.

@@ -1,5 +1,5 @@
-//! A second implementation of document 01's planner and command program,
-//! written from the paper alone, to test the first against.
+//! A second implementation of the planner and command program of documents 01
+//! and 02, written from the papers alone, to test the first against.
 
 mod count;
 mod generate;
@@ -14,7 +14,7 @@ const USAGE: &str = "\
 oracle run                  answers the commands on standard input
 oracle generate SEED LINES  prints a random script of that many lines
 oracle count                counts the answers in an output on standard input
-oracle selftest             checks the cases of document 01 and itself
+oracle selftest             checks the papers' cases and itself
 ";
 
 fn main() -> ExitCode {

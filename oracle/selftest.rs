@@ -1,4 +1,4 @@
-//! Checks of the oracle itself: the cases that document 01 writes out, and
+//! Checks of the oracle itself: the cases that the papers write out, and
 //! generated scripts against a third way to the same answers, a simulation of
 //! rounds at every start.
 

@@ -7,8 +7,8 @@ use lib.Dec.{eqb}
 use lib.ListN.{length, take}
 use borrow.Author.Tests.{eqb-true}
 use Rattle.rules.specs.Slots.{after-round}
-use Rattle.table.specs.Changes.{without-id}
 use Rattle.rules.specs.Tests.{both}
+use Rattle.table.specs.Changes.{without-id}
 use Rattle.superframe.specs.Superframe.{superframe-of, packed}
 use Rattle.superframe.specs.SuperframeTests.{superframe-test, tested-superframe}
 use Rattle.planner.specs.Content.{Content, content}

@@ -40,9 +40,9 @@ pub record WritesSlots (p : Planner) (after : List ℕ) (r : Rounded) : Type 0 w
   pub n : r .n ≡ length packets
   pub ids : take (r .n) after ≡ map (λ (q : Packet). q .number) packets
 
--- What that comes to where there is no stream: the round is at L + G with no slots, nothing is written, and L alone moves; 17 where L + G is
--- after the last start.
-pub record IsHeldAtCap (p : Planner) (before after : List ℕ) (r : Rounded) : Type 0 where
+-- 02 (i), a round where there is no stream: at L + G with no slots, nothing is written, and L alone moves; 17 where L + G is after 1,000,000,000.
+-- The lazy rule and the slot rule come to this by themselves.
+pub record RoundIsAtCap (p : Planner) (before after : List ℕ) (r : Rounded) : Type 0 where
   pub exactly : (r .answer ≡ 0) ↔ (cap-of (content p) ≤ 1_000_000_000)
   pub seventeen : (r .answer ≡ 17) ↔ (1_000_000_000 < cap-of (content p))
   pub start : r .answer ≡ 0 → r .start ≡ cap-of (content p)
@@ -59,7 +59,7 @@ pub record RoundIsLazy (p : Planner) (before after : List ℕ) (r : Rounded) : T
   pub seventeen : (s : ℕ) → IsStart (content p) s → (r .answer ≡ 17) ↔ (1_000_000_000 < s)
   pub held : r .answer ≡ 0 → IsHeldRound p before after r
   pub slots : r .answer ≡ 0 → WritesSlots p after r
-  pub without-streams : content p .table ≡ [] → IsHeldAtCap p before after r
+  pub without-streams : content p .table ≡ [] → RoundIsAtCap p before after r
 
 -- Some plan serves the table, all starts put together: every start and the moment at 0.
 abbrev pub ServableTogether : Content → Type 0
@@ -102,9 +102,9 @@ module _ (p : Planner) (sound : Sound p) (before after : List ℕ) (long : conte
   late-if : (s : ℕ) → IsStart (content p) s → (r .answer ≡ 17) ↔ (1_000_000_000 < s)
   late-if s start = subst⁻¹ (λ (n : ℕ). (n ≡ 17) ↔ (1_000_000_000 < s)) (is .answer) (seventeen-exactly p before sound long s start)
 
-  held-at-cap : content p .table ≡ [] → IsHeldAtCap p before after r
+  round-at-cap : content p .table ≡ [] → RoundIsAtCap p before after r
   unfolding after-round
-  held-at-cap empty =
+  round-at-cap empty =
       let h = content p in
       let cap = empty-start h empty (sound .content-sound) in
       let at-cap : (zero : r .answer ≡ 0) → r .start ≡ cap-of h = λ zero. lazy-unique (h .slots) (cap-of h) (h .table) (r .start) (cap-of h) (success-round is zero .start) cap in
@@ -203,7 +203,7 @@ demand-2 =
             seventeen = late-if p sound before after long r is;
             held = success-round is;
             slots = λ zero. held-writes-slots p sound before after r (success-round is zero);
-            without-streams = held-at-cap p sound before after long r is;
+            without-streams = round-at-cap p sound before after long r is;
           };
       add-is-exact = exact-add;
     }

@@ -98,9 +98,9 @@ uint32_t planner_add(struct planner *p, uint32_t id, uint32_t start, uint32_t pe
 uint32_t planner_remove(struct planner *p, uint32_t id);
 
 /* Holds the next round: its start, and n ids in the buffer's first n places, n at most slots; later places are untouched. That start and
- * ids are those of the lazy rule, that no packet is late and that no plan needs fewer rounds, is said of every sound planner, with or without
- * a stream. With none, before the first is added or after the last is taken out, the round is held at last + gap with n 0, the buffer is
- * left as it was, and no plan that keeps the gap limit holds its k-th round later.
+ * ids are those of the lazy rule, that no packet is late and that no plan needs fewer rounds, is proved of every sound planner, with or
+ * without a stream (docs/RULES.md, demands 2 and 3). With none, before the first is added or after the last is taken out, the round is
+ * held at last + gap with n 0, the buffer is left as it was, and no plan that keeps the gap limit holds its k-th round later.
  * Refuses 5 (the closed planner too); 16 if length is below slots, even where there is nothing to write; 17 if the start is after
  * 1,000,000,000. 15 is not given. */
 struct planner_held planner_round(struct planner *p, uint16_t *buffer, size_t length);

@@ -232,6 +232,13 @@ impl Script {
         self.add(id, start, period, deadline)
     }
 
+    /// Offers a stream due one after its release, which is now or soon after.
+    fn add_urgent(&mut self) -> usize {
+        let period = self.period(1, 240);
+        let (id, start) = (self.free_id(), self.now() + self.random.between(0, 3));
+        self.add(id, start, period, 1)
+    }
+
     /// Removes a stream held, if there is one.
     fn remove_any(&mut self) {
         if let Some(id) = self.held_id() {
@@ -679,9 +686,7 @@ fn clock_end(script: &mut Script) {
     for _ in 0..script.random.between(2, 5) {
         script.rounds(60);
         script.round();
-        let urgent = script.period(1, 240);
-        let (id, start) = (script.free_id(), script.now() + script.random.between(0, 3));
-        script.add(id, start, urgent, 1);
+        script.add_urgent();
         script.some_rounds(3);
         script.stray();
         script.remove_any();
@@ -834,9 +839,7 @@ fn no_stream_at_end(script: &mut Script) {
     script.open(slots, superframe, gap, LAST_START - gap * rounds - short);
     script.rounds(rounds + 1);
     for _ in 0..script.random.between(1, 3) {
-        let period = script.period(1, 240);
-        let (id, start) = (script.free_id(), script.now() + script.random.between(0, 3));
-        script.add(id, start, period, 1);
+        script.add_urgent();
         script.some_rounds(2);
         none_left(script);
         script.rounds(2);

@@ -6,6 +6,7 @@ use Prim.Native.Nat.{ℕ, _+_, _*_, _≤_}
 use lib.Dec.{eqb}
 use lib.ListN.{length, take}
 use borrow.Author.Tests.{eqb-true}
+use Rattle.basics.specs.Refusals.{Refusal}
 use Rattle.rules.specs.Slots.{after-round}
 use Rattle.rules.specs.Tests.{both}
 use Rattle.table.specs.Changes.{without-id}
@@ -15,7 +16,7 @@ use Rattle.planner.specs.Content.{Content, content}
 use Rattle.planner.specs.Sound.{Sound}
 use Rattle.planner.specs.Open.{opened, IsOpened}
 use Rattle.planner.specs.OpenFacts.{open-success-is-sound}
-use Rattle.planner.specs.Calls.{added, removed, IsAdd, IsRemove}
+use Rattle.planner.specs.Calls.{added, removed, IsChange, IsAdd, IsRemove}
 use Rattle.planner.specs.Round.{rounded, IsRound}
 use Rattle.planner.specs.CallFacts.{change-keeps-sound, round-keeps-sound}
 use Rattle.planner.specs.declared.Planner.{Planner}
@@ -74,9 +75,9 @@ starred =
     ∷ superframe-case (240 ∷ 7 ∷ 11 ∷ []) 19 0
     ∷ []
 
--- 02 (i): B=2, F=6, G=6, T=0: O,2,6,6,0 / R / R / R / A,1,19,3,2 / R / D,1 / R print R,0,6,0 / R,0,12,0 / R,0,18,0, then with the stream
+-- Document 02, worked out. (i): O,2,6,6,0 / R / R / R / A,1,19,3,2 / R / D,1 / R print R,0,6,0 / R,0,12,0 / R,0,18,0, then with the stream
 -- R,0,20,1,1, since its packet is due at 21, and without it R,0,26,0, at the cap again.
--- T=999,999,998, G=2: a round at 1,000,000,000, then 17.
+-- B=2, F=6, G=2, T=999,999,998: a round at 1,000,000,000, then 17.
 unfoldable pub later : List Case
 later =
     planner-case 2 6 6 0
@@ -94,21 +95,24 @@ lines-test h (remove-gives id answer ∷ lines) = remove-test h id answer && lin
 lines-test h (round-gives start n ids ∷ lines) = held-test h start n ids && lines-test (rounded h start) lines
 lines-test h (round-refused answer ∷ lines) = (eqb 17 answer && late-test h) && lines-test h lines
 
+-- after a change with this answer the other lines go on from what it leaves
+go-on : {refusals : List Refusal} {p : Planner} {changed : Content} {r : Changed} (lines : List Line)
+    → ((q : Planner) → Sound q → So (lines-test (content q) lines) → Answers q lines) → Sound p → IsChange refusals p changed r → (answer : ℕ) → r .answer ≡ answer
+    → So (lines-test (after-change (content p) changed answer) lines) → (r .answer ≡ answer) × Answers (r .planner) lines
+go-on {r = r} lines others sound is answer answered tested =
+    (answered, others (r .planner) (change-keeps-sound is sound) (subst⁻¹ (λ (h : Content). So (lines-test h lines)) (change-leaves is answer answered) tested))
+
 tested-lines : (lines : List Line) (p : Planner) → Sound p → So (lines-test (content p) lines) → Answers p lines
 unfolding lines-test Answers
 tested-lines [] p sound tested = tt
 tested-lines (add-gives id start period deadline answer ∷ lines) p sound tested =
     let left = after-change (content p) (added (content p) id start period deadline) answer in
     let split : So (add-test (content p) id start period deadline answer) × So (lines-test left lines) = both tested in
-    λ r is.
-    let answered = add-answered p sound id start period deadline answer (split .0) r is in
-    (answered, tested-lines lines (r .planner) (change-keeps-sound is sound) (subst⁻¹ (λ (h : Content). So (lines-test h lines)) (change-leaves is answer answered) (split .1)))
+    λ r is. go-on lines (tested-lines lines) sound is answer (add-answered p sound id start period deadline answer (split .0) r is) (split .1)
 tested-lines (remove-gives id answer ∷ lines) p sound tested =
     let left = after-change (content p) (removed (content p) id) answer in
     let split : So (remove-test (content p) id answer) × So (lines-test left lines) = both tested in
-    λ r is.
-    let answered = remove-answered p sound id answer (split .0) r is in
-    (answered, tested-lines lines (r .planner) (change-keeps-sound is sound) (subst⁻¹ (λ (h : Content). So (lines-test h lines)) (change-leaves is answer answered) (split .1)))
+    λ r is. go-on lines (tested-lines lines) sound is answer (remove-answered p sound id answer (split .0) r is) (split .1)
 tested-lines (round-gives start n ids ∷ lines) p sound tested =
     let split : So (held-test (content p) start n ids) × So (lines-test (rounded (content p) start) lines) = both tested in
     λ before after r long is.

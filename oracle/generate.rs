@@ -40,6 +40,14 @@ impl Random {
         self.below(100) < percent
     }
 
+    /// Puts a list in a random order.
+    fn shuffle<T>(&mut self, list: &mut [T]) {
+        for last in (1..list.len()).rev() {
+            let other = self.between(0, last as u64) as usize;
+            list.swap(last, other);
+        }
+    }
+
     /// One of a list.
     fn pick<T: Copy>(&mut self, list: &[T]) -> T {
         list[self.below(list.len() as u64) as usize]
@@ -55,7 +63,7 @@ struct Script {
 }
 
 /// The kinds of stretches.
-const KINDS: [fn(&mut Script); 21] = [
+const KINDS: [fn(&mut Script); 25] = [
     uniform,
     uniform,
     demand_edge,
@@ -77,6 +85,10 @@ const KINDS: [fn(&mut Script); 21] = [
     no_stream,
     no_stream_at_end,
     no_stream_at_end,
+    ties,
+    ties,
+    ties,
+    ties,
 ];
 
 /// A script of so many lines, the same for the same seed. One script in four
@@ -117,10 +129,7 @@ impl Script {
 
     fn shuffled_kinds(&mut self) -> Vec<fn(&mut Script)> {
         let mut kinds = KINDS.to_vec();
-        for last in (1..kinds.len()).rev() {
-            let other = self.random.between(0, last as u64) as usize;
-            kinds.swap(last, other);
-        }
+        self.random.shuffle(&mut kinds);
         kinds
     }
 
@@ -844,6 +853,71 @@ fn no_stream_at_end(script: &mut Script) {
         none_left(script);
         script.rounds(2);
     }
+}
+
+/// Packets due together and released apart, and rounds with few slots, so
+/// that the order among them shows. The ties come again a period later, and
+/// are changed by a removal or by one more stream due with another.
+fn ties(script: &mut Script) {
+    let period = script
+        .random
+        .pick(&[6, 8, 10, 12, 12, 20, 24, 30, 60, 120, 240]);
+    let superframe = period * script.random.between(1, 2);
+    let slots = script.random.pick(&[1, 1, 1, 2, 2, 3]);
+    let (any, far) = (script.gap(), script.random.between(period, 255));
+    let (gap, time) = (script.random.pick(&[any, far, far]), script.time());
+    script.open(slots, superframe, gap, time);
+    let due = script.now() + script.random.between(period / 2, period);
+    add_tied(script, due, period);
+    for _ in 0..script.random.between(2, 4) {
+        let rounds = script.random.between(4, 14);
+        script.rounds(rounds);
+        if script.random.chance(50) {
+            script.remove_any();
+        }
+        for _ in 0..script.random.between(0, 2) {
+            add_to_tie(script);
+        }
+    }
+}
+
+/// Streams of one period, all due first at one time. Mostly the larger ids are
+/// released earlier, at times by chance; some are alike but for the id.
+fn add_tied(script: &mut Script, due: u64, period: u64) {
+    let most = period.min(due - script.now());
+    let mut streams: Vec<(u64, u64)> = Vec::new();
+    for _ in 0..script.random.between(3, 8) {
+        let (id, deadline) = (script.free_id(), script.random.between(most / 2, most));
+        match streams.last() {
+            Some((_, last)) if script.random.chance(20) => streams.push((id, *last)),
+            _ => streams.push((id, deadline)),
+        }
+    }
+    if script.random.chance(80) {
+        let (mut ids, mut deadlines): (Vec<u64>, Vec<u64>) = streams.into_iter().unzip();
+        ids.sort_unstable();
+        deadlines.sort_unstable();
+        streams = ids.into_iter().zip(deadlines).collect();
+        script.random.shuffle(&mut streams);
+    }
+    for (id, deadline) in streams {
+        script.add(id, due - deadline, period, deadline);
+    }
+}
+
+/// Offers a stream due together with one that is held, mostly of its period.
+fn add_to_tie(script: &mut Script) {
+    let held = script.planner().streams.clone();
+    if held.is_empty() {
+        return;
+    }
+    let with = &held[script.random.below(held.len() as u64) as usize];
+    let other = script.period(2, 240);
+    let period = script.random.pick(&[with.period, with.period, other]);
+    let longest = period.min(with.due() - script.now());
+    let deadline = script.random.between(1, longest);
+    let id = script.free_id();
+    script.add(id, with.due() - deadline, period, deadline);
 }
 
 /// Removes every stream, at times with a round between.

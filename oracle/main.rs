@@ -6,6 +6,7 @@ mod generate;
 mod planner;
 mod program;
 mod selftest;
+mod ties;
 
 use std::io::{self, Read, Write};
 use std::process::ExitCode;
@@ -14,6 +15,9 @@ const USAGE: &str = "\
 oracle run                  answers the commands on standard input
 oracle generate SEED LINES  prints a random script of that many lines
 oracle count                counts the answers in an output on standard input
+oracle ties                 counts the rounds of a script on standard input that
+                            would list other ids, or the same in another order,
+                            by due time and then id alone
 oracle selftest             checks the papers' cases and itself
 ";
 
@@ -27,6 +31,7 @@ fn main() -> ExitCode {
             let text = String::from_utf8_lossy(&output);
             print(count::Counts::of(&text).text().as_bytes())
         }
+        ["ties"] => print(ties::Ties::of(&input()).text().as_bytes()),
         ["generate", seed, lines] => match (seed.parse(), lines.parse()) {
             (Ok(seed), Ok(lines)) => print(&generate::script(seed, lines)),
             _ => usage(),

@@ -29,7 +29,7 @@ impl Stream {
 
     /// "A packet may ride in a round starting at s if it was released by s
     /// (equality counts) and is due at s + 1 or later."
-    fn may_ride(&self, s: u64) -> bool {
+    pub fn may_ride(&self, s: u64) -> bool {
         self.release <= s && self.due() >= s + 1
     }
 }
@@ -201,17 +201,30 @@ impl Planner {
         Ok((start, ids.len()))
     }
 
-    /// "Slots: of the packets that may ride, the first B by due time, then
-    /// id, written in that order". As D is at most P, a stream's later packet
-    /// is released when the one before it is due or after, so at most the
-    /// first unserved packet of each stream may ride.
-    fn slot_ids(&self, start: u64) -> Vec<u64> {
+    /// "Slots: of the packets that may ride, the first B by due time",
+    /// "written in that order"; "Packets due at the same time now go by earlier
+    /// release, then by smaller id" (document 02, ii).
+    pub fn slot_ids(&self, start: u64) -> Vec<u64> {
+        self.first_riders(start, |stream| (stream.due(), stream.release, stream.id))
+    }
+
+    /// The slots of document 01, "by due time, then id", for counting the
+    /// rounds that tell the two orders apart; no answer comes from here.
+    pub fn slot_ids_before_ii(&self, start: u64) -> Vec<u64> {
+        self.first_riders(start, |stream| (stream.due(), stream.id))
+    }
+
+    /// The ids of the first B of the packets that may ride, by a key. As D is
+    /// at most P, a stream's later packet is released when the one before it
+    /// is due or after, so at most the first unserved packet of each stream
+    /// may ride.
+    fn first_riders<K: Ord>(&self, start: u64, key: impl Fn(&Stream) -> K) -> Vec<u64> {
         let mut riders: Vec<&Stream> = self
             .streams
             .iter()
             .filter(|stream| stream.may_ride(start))
             .collect();
-        riders.sort_by_key(|stream| (stream.due(), stream.id));
+        riders.sort_by_key(|stream| key(stream));
         riders.truncate(self.slots as usize);
         riders.iter().map(|stream| stream.id).collect()
     }

@@ -116,7 +116,7 @@ fn number(field: &[u8]) -> Option<u64> {
 
 /// "Lines end in LF (the last may lack it)": input that ends in LF has no
 /// further empty line, and empty input has no line.
-fn lines(input: &[u8]) -> Vec<&[u8]> {
+pub fn lines(input: &[u8]) -> Vec<&[u8]> {
     let mut lines: Vec<&[u8]> = input.split(|byte| *byte == b'\n').collect();
     if lines.last().is_some_and(|line| line.is_empty()) {
         lines.pop();

@@ -6,11 +6,12 @@ use crate::count::{self, Counts};
 use crate::generate;
 use crate::planner::{self, Planner, Stream};
 use crate::program::{self, Program};
+use crate::ties::Ties;
 use std::process::ExitCode;
 
 /// Runs every check and says which ones fail.
 pub fn run() -> ExitCode {
-    let checks: [(&str, fn() -> bool); 10] = [
+    let checks: [(&str, fn() -> bool); 12] = [
         ("the three rounds and the other tables on the edge", tables),
         ("figure 9 of document 004", figure_9),
         ("superframe", superframes),
@@ -18,9 +19,11 @@ pub fn run() -> ExitCode {
         ("numbers", numbers),
         ("the closed planner and the clock's end", closed_and_end),
         ("rounds with no stream", no_streams),
+        ("packets due at the same time", equals),
         ("the slot buffer", buffer),
         ("generated scripts against a simulation", simulated),
         ("every answer in 20,000 generated lines", every_answer),
+        ("a tenth of the rounds show the order", order_shown),
     ];
     let mut failures = 0;
     for (name, check) in checks {
@@ -170,6 +173,36 @@ fn no_streams() -> bool {
         && gives("O,2,6,3,999999998 / R", "O,0 / R,17")
 }
 
+/// "Packets due at the same time now go by earlier release, then by smaller
+/// id." Worked by hand, T = 0 and G = 20 throughout:
+///
+/// B = 1: 1 released at 5, 2 at 3 and 3 at 1, all due at 9. h(9) = 3, so the
+/// start is 9 - 3 = 6 (h(21) = 6 allows 15), then 7 and 8, and all three are
+/// released by 6. Their next packets, 12 later, are due at 21: 18, 19, 20.
+///
+/// B = 1, alike but for the id, all (1,12,8): the same starts, ids ascending.
+///
+/// B = 2: 5 and 6 released at 3, 8 at 2, 7 at 4, all due at 9. h(9) = 4, so 7
+/// and 8: first 8, released first, then 5 and 6 by id, then 7, though its id
+/// is below 8. Then 8 is removed and added again, released at 20. All four
+/// are due at 21, so 19 and 20: 5 and 6 wait since 15, 7 since 16, and 8,
+/// which may not ride at 19, is last.
+fn equals() -> bool {
+    gives(
+        "O,1,12,20,0 / A,1,5,12,4 / A,2,3,12,6 / A,3,1,12,8 / R / R / R / R / R / R",
+        "O,0 / A,1,0 / A,2,0 / A,3,0 / R,0,6,1,3 / R,0,7,1,2 / R,0,8,1,1 / \
+         R,0,18,1,3 / R,0,19,1,2 / R,0,20,1,1",
+    ) && gives(
+        "O,1,12,20,0 / A,9,1,12,8 / A,4,1,12,8 / A,7,1,12,8 / R / R / R",
+        "O,0 / A,9,0 / A,4,0 / A,7,0 / R,0,6,1,4 / R,0,7,1,7 / R,0,8,1,9",
+    ) && gives(
+        "O,2,12,20,0 / A,5,3,12,6 / A,7,4,12,5 / A,6,3,12,6 / A,8,2,12,7 / R / R / \
+         D,8 / A,8,20,12,1 / R / R",
+        "O,0 / A,5,0 / A,7,0 / A,6,0 / A,8,0 / R,0,7,2,8,5 / R,0,8,2,6,7 / \
+         D,8,0 / A,8,0 / R,0,19,2,5,6 / R,0,20,2,7,8",
+    )
+}
+
 /// "16 for a buffer shorter than B", before 17, also where nothing is to be
 /// written; "later places are untouched".
 fn buffer() -> bool {
@@ -188,8 +221,8 @@ fn buffer() -> bool {
     none && too_short && held && written && still_short && late
 }
 
-/// Generated scripts: the planner stays sound, and 12, 13 and each start are
-/// what a simulation says.
+/// Generated scripts: the planner stays sound, 12, 13 and each start are what
+/// a simulation says, and the slots are in order.
 fn simulated() -> bool {
     (1..=5).all(|seed| simulated_script(&generate::script(seed, 3_000)))
 }
@@ -207,7 +240,10 @@ fn simulated_script(script: &[u8]) -> bool {
         let good = (after.is_closed() || after.sound())
             && match printed.as_bytes()[0] {
                 b'A' => add_as_simulated(&before, line, count::number(&printed)),
-                b'R' => round_as_simulated(&before, after, count::number(&printed)),
+                b'R' => {
+                    round_as_simulated(&before, after, count::number(&printed))
+                        && slots_in_order(&before, after.last, &printed)
+                }
                 _ => true,
             };
         if !good {
@@ -266,6 +302,39 @@ fn round_as_simulated(before: &Planner, after: &Planner, answer: usize) -> bool 
     (answer == 17) == late && after.last == if late { before.last } else { start }
 }
 
+/// The ids of a held round are of packets that may ride, each goes before the
+/// next, and the last before every such packet left out; B of them, or all.
+fn slots_in_order(before: &Planner, start: u64, printed: &str) -> bool {
+    let Some(ids) = printed.strip_prefix("R,0,") else {
+        return true;
+    };
+    let (mut out, mut listed) = (before.streams.clone(), Vec::new());
+    out.retain(|stream| stream.may_ride(start));
+    for id in ids.split(',').skip(2) {
+        let Some(place) = out.iter().position(|stream| stream.id.to_string() == id) else {
+            return false;
+        };
+        listed.push(out.remove(place));
+    }
+    let in_order = listed.windows(2).all(|two| goes_before(&two[0], &two[1]));
+    let first = listed
+        .last()
+        .is_none_or(|last| out.iter().all(|left| goes_before(last, left)));
+    in_order && first && (out.is_empty() || listed.len() as u64 == before.slots)
+}
+
+/// Earlier due; "due at the same time" "by earlier release, then by smaller
+/// id".
+fn goes_before(one: &Stream, other: &Stream) -> bool {
+    if one.due() != other.due() {
+        return one.due() < other.due();
+    }
+    if one.release != other.release {
+        return one.release < other.release;
+    }
+    one.id < other.id
+}
+
 /// Whether rounds at every start from a moment on, each with the earliest due
 /// first, send every packet in time.
 fn served(table: &Planner, moment: u64) -> bool {
@@ -295,4 +364,12 @@ fn every_answer() -> bool {
         .all(|number| counts.total(number) >= 12);
     let impossible = [15, 16, 18, 19];
     enough && impossible.iter().all(|number| counts.total(*number) == 0)
+}
+
+/// Of the rounds held in such a script at least a tenth would be listed
+/// otherwise by due time and then id alone: a comparison that seldom meets
+/// document 02, (ii) shows little.
+fn order_shown() -> bool {
+    let ties = Ties::of(&generate::script(1, 20_000));
+    ties.other() * 10 >= ties.held
 }

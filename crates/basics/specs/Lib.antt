@@ -3,6 +3,7 @@ pub mod Decides
 pub mod Refusals
 pub mod Below
 pub mod Sorted
+pub mod Lexicographic
 pub mod Members
 pub mod Places
 pub mod PlaceFacts

@@ -1,6 +1,9 @@
-// Notions that several crates share: deciding, refusals in order, lists in order, a number's place among 64 that rise, and a number in more bits.
+// Notions that several crates share: deciding, refusals in order, lists in order, an order by three numbers, a number's place among 64 that rise,
+// and a number in more bits.
 ghost use mathlib.Core.Path.{_≡_};
-ghost use Prim.Native.Nat.{_+_, _≤_};
+ghost use Prim.Native.Nat.{_+_, _≤_, _<_};
+ghost use Rattle.basics.specs.Decides.{Decides};
+ghost use Rattle.basics.specs.Lexicographic.{Then};
 ghost use Rattle.basics.specs.Places.{Rises, IsPlaceAmong, IsUpper};
 
 // A number of 16 bits in 32.
@@ -8,6 +11,32 @@ pub fn wide(x: u16) -> u32
     ensures { λ r. ⌜ r ≡ x ⌝ }
 {
     x as u32
+}
+
+// Whether three numbers come after three others: by the first, where these are equal by the second, and where those are equal too by the third.
+pub fn is_after(
+    first: u32,
+    second: u32,
+    third: u32,
+    than_first: u32,
+    than_second: u32,
+    than_third: u32,
+) -> bool
+    ensures { λ r. ⌜ Decides r (Then «than_first» first (Then «than_second» second («than_third» < third))) ⌝ }
+{
+    if than_first < first {
+        return true;
+    }
+    if first < than_first {
+        return false;
+    }
+    if than_second < second {
+        return true;
+    }
+    if second < than_second {
+        return false;
+    }
+    than_third < third
 }
 
 // The lower end for the next half: past this one if it ends below x.

@@ -78,11 +78,17 @@ starred =
 -- Document 02, worked out. (i): O,2,6,6,0 / R / R / R / A,1,19,3,2 / R / D,1 / R print R,0,6,0 / R,0,12,0 / R,0,18,0, then with the stream
 -- R,0,20,1,1, since its packet is due at 21, and without it R,0,26,0, at the cap again.
 -- B=2, F=6, G=2, T=999,999,998: a round at 1,000,000,000, then 17.
+-- (ii), F=12, G=20, T=0, all due at 9. B=1, streams 1 (5,12,4) and 2 (1,12,8): a round at 7 sends 2, one at 8 sends 1; by id alone it would be 1, 2.
+-- B=2, with 2 as (3,12,6) and 3 as (1,12,8): at 7 the ids are 3, 2, at 8 it is 1. B=1, streams 9, 4 and 7, each (1,12,8): 4 at 6, 7 at 7, 9 at 8.
 unfoldable pub later : List Case
 later =
     planner-case 2 6 6 0
     (round-gives 6 0 [] ∷ round-gives 12 0 [] ∷ round-gives 18 0 [] ∷ add-gives 1 19 3 2 0 ∷ round-gives 20 1 (1 ∷ []) ∷ remove-gives 1 0 ∷ round-gives 26 0 [] ∷ [])
     ∷ planner-case 2 6 2 999_999_998 (round-gives 1_000_000_000 0 [] ∷ round-refused 17 ∷ [])
+    ∷ planner-case 1 12 20 0 (add-gives 1 5 12 4 0 ∷ add-gives 2 1 12 8 0 ∷ round-gives 7 1 (2 ∷ []) ∷ round-gives 8 1 (1 ∷ []) ∷ [])
+    ∷ planner-case 2 12 20 0 (add-gives 1 5 12 4 0 ∷ add-gives 2 3 12 6 0 ∷ add-gives 3 1 12 8 0 ∷ round-gives 7 2 (3 ∷ 2 ∷ []) ∷ round-gives 8 1 (1 ∷ []) ∷ [])
+    ∷ planner-case 1 12 20 0
+    (add-gives 9 1 12 8 0 ∷ add-gives 4 1 12 8 0 ∷ add-gives 7 1 12 8 0 ∷ round-gives 6 1 (4 ∷ []) ∷ round-gives 7 1 (7 ∷ []) ∷ round-gives 8 1 (9 ∷ []) ∷ [])
     ∷ []
 
 -- a test of the lines, by what the planner holds

@@ -1,6 +1,6 @@
--- Demand 2: "Each round's start and slots are those of the lazy rule with earliest deadline first, equal deadlines by smaller id. A well-formed
--- new stream, offered to a sound planner with a place free, is refused exactly when no plan serves the table, all starts put together, or none
--- serves it from now on with the packets now held."
+-- Demand 2: "Each round's start and slots are those of the lazy rule with earliest deadline first", equal deadlines by earlier release, then by
+-- smaller id, as 02 (ii) has it. "A well-formed new stream, offered to a sound planner with a place free, is refused exactly when no plan serves
+-- the table, all starts put together, or none serves it from now on with the packets now held."
 use mathlib.Core.Path.{_≡_, refl, sym, ap, subst⁻¹, _∙_}
 use mathlib.Core.Logic.{_⊎_, inl, inr, _↔_, _∨₁_, Or·inl, Or·inr, Or·elim}
 use mathlib.Core.HLevel.{⊥-prop}
@@ -32,8 +32,9 @@ use Rattle.planner.specs.declared.Changed.{Changed}
 use Rattle.planner.specs.declared.Rounded.{Rounded}
 use Rattle.demands.specs.HeldFacts.{ids-written}
 
--- The n ids in the buffer are those of the packets that 01 names: "of the packets that may ride, the first B by due time, then id, written in that
--- order". There is only one such list of packets (`slots-unique` of the rules).
+-- The n ids in the buffer are those of the slots: of the packets that may ride, the first B by due time, then release, then id, in that order.
+-- There is only one such list of packets (`slots-unique` of the rules), and of those due at the same time none is left out that has waited longer
+-- than one in it (`among-equals-longest-first` of the rules).
 pub record WritesSlots (p : Planner) (after : List ℕ) (r : Rounded) : Type 0 where
   pub packets : List Packet
   pub are-slots : IsSlots (content p .slots) (r .start) (content p .table) packets

@@ -17,12 +17,13 @@ use Rattle.table.specs.Changes.{HasStreams, CanPut}
 use Rattle.table.specs.Range.{StreamsInRange, AreNear, TableInRange}
 use Rattle.table.specs.Lengths.{IsBusyLength, IsNextStart, CanTestDemand, CanFindStart}
 use Rattle.table.specs.declared.Table.{Table}
-use Rattle.queue.specs.Calls.{HasEntries, inserted}
+use Rattle.queue.specs.Calls.{HasEntries}
+use Rattle.queue.specs.Entries.{put}
 use Rattle.queue.specs.Inner.{CanInsert}
 use Rattle.queue.specs.Layout.{entries}
 use Rattle.queue.specs.declared.Queue.{Queue}
 use Rattle.planner.specs.Content.{Content, content, now-of, with-table}
-use Rattle.planner.specs.Sound.{Sound}
+use Rattle.planner.specs.Sound.{entry-of, Sound}
 use Rattle.planner.specs.Decide.{decide-sound}
 use Rattle.planner.specs.OpenFacts.{NumbersInRange, in-limit}
 use Rattle.planner.specs.Calls.{offered, added, unsound, offer-refusals, rule-refusals, add-refusals, IsOffer, IsSoundWith}
@@ -134,7 +135,7 @@ module _ {p : Planner} {id start period deadline : ℕ} (can : CanTest p id star
   can-put long = record { room = omega (arith, sound-count (can .sound) long, can .offer .place-free) }
 
   -- .. and so has the queue
-  pub can-file : CanInsert (p .queue) id (start + deadline)
+  pub can-file : CanInsert (p .queue) (entry-of (offered id start period deadline))
   can-file =
       can-insert p (can .sound) (offered id start period deadline) (can .offer .id) (can .offer .new) (can .offer .place-free) (can .offer .deadline-range .0)
       (omega (arith, can .offer .deadline-range, can .offer .period-range)) (can .offer .start-range .0) (can .offer .start-range .1)
@@ -171,10 +172,10 @@ module _ {p : Planner} {id start period deadline : ℕ} (can : CanTest p id star
 -- the planner with that table and the entry in its queue is sound
 pub taken-in : {p : Planner} {id start period deadline : ℕ} → CanAdd p id start period deadline
     → {table : Table} → HasStreams (added (content p) id start period deadline .table) table
-    → {queue : Queue} → HasEntries queue (inserted id (start + deadline) (entries (p .queue)))
+    → {queue : Queue} → HasEntries queue (put (entry-of (offered id start period deadline)) (entries (p .queue)))
     → IsSoundWith (added (content p) id start period deadline) (record { slots = p .slots; frame = p .frame; gap = p .gap; last = p .last; table = table; queue = queue })
 taken-in {p} {id} {start} {period} {deadline} can {table} has {queue} filed =
     is-sound-with (added (content p) id start period deadline) (record { slots = p .slots; frame = p .frame; gap = p .gap; last = p .last; table = table; queue = queue })
     (ap (with-table (content p)) (has .streams)) (has .count)
     (added-sound (content p) (can .can-test .sound .content-sound) id start period deadline (can .can-test .offer) (can .demand-rule) (can .start-rule))
-    (inserted id (start + deadline) (entries (p .queue))) filed (files-inserted (entries (p .queue)) (content p .table) (offered id start period deadline) (can .can-test .sound .files))
+    (put (entry-of (offered id start period deadline)) (entries (p .queue))) filed (files-inserted (entries (p .queue)) (content p .table) (offered id start period deadline) (can .can-test .sound .files))

@@ -22,7 +22,7 @@ use Rattle.table.specs.ChangeFacts.{streams-count}
 use Rattle.table.specs.Ids.{IsIds}
 use Rattle.table.specs.IdFacts.{ids-rise, id-row}
 use Rattle.table.specs.declared.Table.{Table}
-use Rattle.queue.specs.Order.{Entry}
+use Rattle.queue.specs.Order.{Entry, triple}
 use Rattle.queue.specs.Layout.{id-at, entries}
 use Rattle.queue.specs.Layout
 use Rattle.queue.specs.Layout.Laws.{entries-in-order, entry-id-in-range}
@@ -140,13 +140,13 @@ module _ (p : Planner) (s : ℕ) (can : CanChoose p s) (long : length (p .table 
       id = id-at (p .queue) place
 
       abbrev entry : Entry
-      entry = getD es i (record { key = 0; id = 0 })
+      entry = getD es i (triple 0 0 0)
 
       more-entries : i < length es
       more-entries = omega (arith, all-entries)
 
       entry-there : List·Mem entry es
-      entry-there = getD-mem es i (record { key = 0; id = 0 }) more-entries
+      entry-there = getD-mem es i (triple 0 0 0) more-entries
 
       same-id : id ≡ entry .id
       same-id = ap (λ (e : Entry). e .id) (in-order i more .1)
@@ -166,7 +166,7 @@ module _ (p : Planner) (s : ℕ) (can : CanChoose p s) (long : length (p .table 
         pub one-more-taken-in : (chosen .n ≡ p .slots → ⊥) → stream-at (p .table) row .release ≤ s → Visited (p .queue) (p .table) (p .slots) s (i + 1) (with-chosen chosen id row place)
         one-more-taken-in not-full early =
             let inside = still-room not-full in
-            let more-ids = one-more-taken s ss es i (record { key = 0; id = 0 }) more-entries (found-released ss ascending (entry .id) s (stream-at (p .table) row) its-stream early) in
+            let more-ids = one-more-taken s ss es i (triple 0 0 0) more-entries (found-released ss ascending (entry .id) s (stream-at (p .table) row) its-stream early) in
             subst⁻¹ (λ (k : ℕ). Visited (p .queue) (p .table) (p .slots) s k (with-chosen chosen id row place)) (add-one i)
             (record {
               within = omega arith;
@@ -207,7 +207,7 @@ module _ (p : Planner) (s : ℕ) (can : CanChoose p s) (long : length (p .table 
 
         pub one-more-skipped-in : s < stream-at (p .table) row .release → Visited (p .queue) (p .table) (p .slots) s (i + 1) chosen
         one-more-skipped-in late =
-            let same-ids = one-more-skipped s ss es i (record { key = 0; id = 0 }) more-entries (found-unreleased ss ascending (entry .id) s (stream-at (p .table) row) its-stream late) in
+            let same-ids = one-more-skipped s ss es i (triple 0 0 0) more-entries (found-unreleased ss ascending (entry .id) s (stream-at (p .table) row) its-stream late) in
             subst⁻¹ (λ (k : ℕ). Visited (p .queue) (p .table) (p .slots) s k chosen) (add-one i)
             (record {
               within = omega arith;

@@ -15,12 +15,12 @@ use Rattle.rules.specs.Slots.{next}
 use Rattle.rules.specs.Lists.{no-longer}
 use Rattle.rules.specs.Equality.{stream-set}
 use Rattle.queue.specs.Order.{Entry, Before}
-use Rattle.queue.specs.Entries.{without, Filed, InBounds}
+use Rattle.queue.specs.Entries.{put, without, moved-on, Filed, InBounds}
 use Rattle.queue.specs.EntryFacts.{entry-path, before-asym}
 use Rattle.queue.specs.Layout.{entries}
 use Rattle.queue.specs.Layout
-use Rattle.queue.specs.Layout.Laws.{entries-in-order, in-without-iff, in-inserted-iff, in-moved-iff}
-use Rattle.queue.specs.Calls.{inserted, moved}
+use Rattle.queue.specs.Layout.Laws.{entries-in-order, in-without-iff, in-put-iff, in-moved-iff}
+use Rattle.queue.specs.Calls.{moved}
 use Rattle.queue.specs.Inner.{CanInsert, CanDelete}
 use Rattle.queue.specs.declared.Queue.{Queue}
 use Rattle.planner.specs.Content.{content, now-of}
@@ -50,6 +50,10 @@ module _ (es : List Entry) (ss : List Stream) (files : Files es ss) where
     λ held. ∥∥₁-map (mem-map .0 held) (λ w. (entry-of (w .0), files-entry (w .0) (w .1), w .2)),
   )
 
+  -- no release is after its key
+  pub files-released : (e : Entry) → List·Mem e es → e .release ≤ e .key
+  files-released e m = ∥∥₁-elim (files e .0 m) le-prop (λ w. subst⁻¹ (λ (a : Entry). a .release ≤ a .key) (w .2) (omega arith))
+
   -- keys lie where the due times lie
   pub files-within : (low high : ℕ) → ((s : Stream) → List·Mem s ss → (low ≤ due s) × (due s ≤ high)) → (e : Entry) → List·Mem e es → (low ≤ e .key) × (e .key ≤ high)
   files-within low high within e m =
@@ -57,11 +61,11 @@ module _ (es : List Entry) (ss : List Stream) (files : Files es ss) where
 
 module _ (es : List Entry) (ss : List Stream) where
   -- with a stream's entry inserted it files the table with that stream
-  pub files-inserted : (x : Stream) → Files es ss → Files (inserted (x .number) (due x) es) (put-by-id x ss)
+  pub files-inserted : (x : Stream) → Files es ss → Files (put (entry-of x) es) (put-by-id x ss)
   files-inserted x files e = (
-    λ m. Or·elim ∥∥₁-prop (in-inserted-iff (x .number) (due x) es e .0 m) (λ same. ∣ (x, in-put-by-id x ss x .1 (Or·inl refl), same) ∣₁)
+    λ m. Or·elim ∥∥₁-prop (in-put-iff (entry-of x) es e .0 m) (λ same. ∣ (x, in-put-by-id x ss x .1 (Or·inl refl), same) ∣₁)
         (λ old. ∥∥₁-map (files e .0 old) (λ w. (w .0, in-put-by-id x ss (w .0) .1 (Or·inr (w .1)), w .2))),
-    λ some. in-inserted-iff (x .number) (due x) es e .1
+    λ some. in-put-iff (entry-of x) es e .1
         (∥∥₁-elim some ∥∥₁-prop
         (λ w. Or·elim ∥∥₁-prop (in-put-by-id x ss (w .0) .0 (w .1)) (λ same. Or·inl (w .2 ∙ ap entry-of same)) (λ old. Or·inr (files e .1 ∣ (w .0, old, w .2) ∣₁)))),
   )
@@ -94,14 +98,15 @@ module _ (q : Queue) (sound : Layout.Sound q) (ss : List Stream) (ascending : Pa
       (rw (length-map ss entry-of) at (no-longer (map entry-of ss) (entries q) stream-entries-differ (λ e m. files e .1 (in-entries ss e .0 m))))
 
 -- keys among 480 in a row are within the bounds
-pub within-bounds : (es : List Entry) (low : ℕ) → low + 479 ≤ 2_000_000_000 → ((e : Entry) → List·Mem e es → (low ≤ e .key) × (e .key ≤ low + 479)) → InBounds es
-within-bounds es low early within =
-    record { keys = λ e m. let w = within e m in omega arith; span = λ d e md me. let v = within d md in let w = within e me in omega arith }
+pub within-bounds : (es : List Entry) (low : ℕ) → low + 479 ≤ 2_000_000_000 → ((e : Entry) → List·Mem e es → (low ≤ e .key) × (e .key ≤ low + 479))
+    → ((e : Entry) → List·Mem e es → e .release ≤ e .key) → InBounds es
+within-bounds es low early within released =
+    record { keys = λ e m. let w = within e m in omega arith; released = released; span = λ d e md me. let v = within d md in let w = within e me in omega arith }
 
 module _ (p : Planner) (sound : Sound p) where
   -- no refusal applies to the insertion of a new stream near now ..
   pub can-insert : (x : Stream) → (1 ≤ x .number) × (x .number ≤ 32767) → (HasId (x .number) (content p .table) → ⊥) → length (content p .table) < 64
-      → 1 ≤ x .deadline → x .deadline ≤ 240 → now-of (content p) ≤ x .release → x .release ≤ now-of (content p) + 239 → CanInsert (p .queue) (x .number) (due x)
+      → 1 ≤ x .deadline → x .deadline ≤ 240 → now-of (content p) ≤ x .release → x .release ≤ now-of (content p) + 239 → CanInsert (p .queue) (entry-of x)
   can-insert x id-in new room some-deadline short-deadline from-now near =
       record {
         sound = sound .queue-sound;
@@ -110,8 +115,8 @@ module _ (p : Planner) (sound : Sound p) where
         room = rw (files-length (p .queue) (sound .queue-sound) (content p .table) (in-range .streams .ascending) (sound .files)) room;
         new = λ filed. new (files-filed (entries (p .queue)) (content p .table) (sound .files) (x .number) .0 filed);
         bounds =
-            within-bounds (inserted (x .number) (due x) (entries (p .queue))) (now-of (content p) + 1) (omega (arith, in-range .last))
-            (files-within (inserted (x .number) (due x) (entries (p .queue))) (put-by-id x (content p .table)) (files-inserted (entries (p .queue)) (content p .table) x (sound .files))
+            within-bounds (put (entry-of x) (entries (p .queue))) (now-of (content p) + 1) (omega (arith, in-range .last))
+            (files-within (put (entry-of x) (entries (p .queue))) (put-by-id x (content p .table)) (files-inserted (entries (p .queue)) (content p .table) x (sound .files))
             (now-of (content p) + 1) (now-of (content p) + 1 + 479)
             (put-all (λ (s : Stream). (now-of (content p) + 1 ≤ due s) × (due s ≤ now-of (content p) + 1 + 479)) (λ s. ×-prop le-prop le-prop) x (content p .table)
             (omega arith, omega arith)
@@ -119,7 +124,8 @@ module _ (p : Planner) (sound : Sound p) where
             let r = in-range .streams .each s m in
             let after = sound .content-sound .near .due-after s m in
             let released = sound .content-sound .near .released s m in
-            (omega arith, omega (arith, r .period, r .deadline)))));
+            (omega arith, omega (arith, r .period, r .deadline)))))
+            (files-released (put (entry-of x) (entries (p .queue))) (put-by-id x (content p .table)) (files-inserted (entries (p .queue)) (content p .table) x (sound .files)));
       }
     where
       in-range : InRange (content p)
@@ -147,13 +153,13 @@ files-moved q sound ss table files x mx e = (
 )
   where
     after : Entry
-    after = record { key = due x + x .period; id = x .number }
+    after = moved-on (x .period) (entry-of x)
 
     change : List·Mem e (moved (x .number) (x .period) (entries q)) ↔ ((e ≡ after) ∨₁ (List·Mem e (entries q) × (e .id ≡ x .number → ⊥)))
     change = in-moved-iff q sound (entry-of x) (files-entry (entries q) ss files x mx) (x .period) e
 
     here : after ≡ entry-of (stepped (x .number) x)
-    here = stepped-elim (x .number) (λ (z : Stream). after ≡ entry-of z) x (λ _. entry-path after (entry-of (next x)) (omega arith) refl) (λ other. absurd (other refl))
+    here = stepped-elim (x .number) (λ (z : Stream). after ≡ entry-of z) x (λ _. entry-path after (entry-of (next x)) (omega arith) refl refl) (λ other. absurd (other refl))
 
     elsewhere : (s : Stream) → (s .number ≡ x .number → ⊥) → entry-of s ≡ entry-of (stepped (x .number) s)
     elsewhere s other = stepped-elim (x .number) (λ (z : Stream). entry-of s ≡ entry-of z) s (λ same. absurd (other same)) (λ _. refl)
@@ -163,5 +169,5 @@ files-moved q sound ss table files x mx e = (
         stepped-elim (x .number) (λ (z : Stream). e ≡ entry-of z → (e ≡ after) ∨₁ (List·Mem e (entries q) × (e .id ≡ x .number → ⊥))) y
         (λ same eq.
         let y-x : y ≡ x = inj-on-of-nodup-map stream-set (λ (z : Stream). z .number) (table .differ) y my x mx same in
-        Or·inl (eq ∙ ap (λ (z : Stream). entry-of (next z)) y-x ∙ entry-path (entry-of (next x)) after (omega arith) refl))
+        Or·inl (eq ∙ ap (λ (z : Stream). entry-of (next z)) y-x ∙ entry-path (entry-of (next x)) after (omega arith) refl refl))
         (λ other eq. Or·inr (files e .1 ∣ (y, my, eq) ∣₁, λ n. other (sym (ap (λ (a : Entry). a .id) eq) ∙ n)))

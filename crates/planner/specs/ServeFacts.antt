@@ -28,7 +28,7 @@ use Rattle.planner.specs.Sound.{ContentSound, Files}
 use Rattle.planner.specs.SoundFacts.{all-formed, content-ready}
 use Rattle.planner.specs.Round.{IsStart, ids-at}
 use Rattle.planner.specs.Kept.{passed-number, start-from-now}
-use Rattle.planner.specs.FilesFacts.{files-filed, files-within, within-bounds, stepped-elim, files-moved}
+use Rattle.planner.specs.FilesFacts.{files-filed, files-within, files-released, within-bounds, stepped-elim, files-moved}
 
 -- The table with the streams of these ids served, one after the other.
 unfoldable pub serve-all : List ℕ → List Stream → List Stream
@@ -170,5 +170,6 @@ module _ (h : Content) (sound : ContentSound h) (s : ℕ) (lazy : IsStart h s) w
             bounds =
                 within-bounds (moved (x .number) (x .period) (entries q)) (s + 1) (omega arith)
                 (files-within (moved (x .number) (x .period) (entries q)) (serve-all (take (k + 1) (ids-at h s)) (h .table)) files-served (s + 1) (s + 1 + 479)
-                (λ y m. let b = served-bounds (k + 1) y m in (b .0 .0, omega (arith, b .0 .1))));
+                (λ y m. let b = served-bounds (k + 1) y m in (b .0 .0, omega (arith, b .0 .1))))
+                (files-released (moved (x .number) (x .period) (entries q)) (serve-all (take (k + 1) (ids-at h s)) (h .table)) files-served);
           }

@@ -47,6 +47,10 @@ pub record ServedTo (h : Content) (s k : ℕ) (table : Table) (queue : Queue) : 
 abbrev pub table-of : Planner → Rows → Table
 table-of p streams = record { count = p .table .count; streams = streams }
 
+-- The planner with a round held at s, which left these streams and this queue.
+abbrev pub served-planner : Planner → ℕ → Rows → Queue → Planner
+served-planner p s streams queue = record { slots = p .slots; frame = p .frame; gap = p .gap; last = s; table = table-of p streams; queue = queue }
+
 -- after k of the chosen: every id is still at its row and its place
 pub record Serving (p : Planner) (s k : ℕ) (streams : Rows) (queue : Queue) : Type 0 where
   pub served : ServedTo (content p) s k (table-of p streams) queue

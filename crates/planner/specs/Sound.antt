@@ -29,11 +29,11 @@ pub record ContentSound (h : Content) : Type 0 where
   pub demand-rule : DemandRule (h .slots) (h .table)
   pub start-rule : StartRule (h .slots) (now-of h) (h .table)
 
--- A stream's entry in the queue: its id under the due time of its unserved packet.
+-- A stream's entry in the queue: its id under the due time of its unserved packet, with that packet's release.
 abbrev pub entry-of : Stream → Entry
-entry-of s = record { key = due s; id = s .number }
+entry-of s = record { key = due s; release = s .release; id = s .number }
 
--- 01 (e): "its queue files exactly its streams under their due times".
+-- 01 (e): "its queue files exactly its streams under their due times". 02 (ii): "soundness (e) asks for the release too".
 abbrev pub Files : List Entry → List Stream → Type 0
 Files es ss = (e : Entry) → List·Mem e es ↔ ∥ ((s : Stream) × List·Mem s ss × (e ≡ entry-of s)) ∥₁
 

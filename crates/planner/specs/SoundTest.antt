@@ -6,7 +6,7 @@ use mathlib.Core.List.{List, List·Mem}
 use Prim.Native.Nat.{ℕ, _+_, _≤_, _<_}
 use native.Mathlib.Nat.{lt-irrefl}
 use native.Mathlib.Omega.{arith}
-use lib.ListN.{length, take, getD, length-map, length-take}
+use lib.ListN.{length, take, length-map, length-take}
 use Rattle.basics.specs.Decides.{Decides, same-as}
 use Rattle.rules.specs.Streams.{Stream, due}
 use Rattle.table.specs.Table.{stream-of, streams-of, stream-at, IsColumn, CanRead}
@@ -16,9 +16,9 @@ use Rattle.table.specs.IdFacts.{ids-rise, ids-ascend}
 use Rattle.table.specs.Range.{TableInRange}
 use Rattle.table.specs.Lengths.{IsBusyLength, IsNextStart, CanTestDemand, CanFindStart}
 use Rattle.table.specs.declared.Table.{Table}
-use Rattle.table.specs.declared.Column.the-variants.{Due}
+use Rattle.table.specs.declared.Column.the-variants.{Due, Release}
 use Rattle.queue.specs.Order.{Entry}
-use Rattle.queue.specs.Entries.{FilesJust}
+use Rattle.queue.specs.Entries.{row-of, FilesJust}
 use Rattle.queue.specs.Inner.{CanFile}
 use Rattle.queue.specs.EntryFacts.{entry-path}
 use Rattle.queue.specs.Layout.{entries}
@@ -39,9 +39,12 @@ module _ (table : Table) (can : CanCompare table) (long : length (table .streams
   pub can-read-dues : CanRead Due table
   can-read-dues = record { count = can .count; small = λ k below. can .dues (stream-at table k) (held k below) }
 
-  module _ (ids dues : List ℕ) (is-ids : IsIds table ids) (is-dues : IsColumn Due table dues) where
+  pub can-read-releases : CanRead Release table
+  can-read-releases = record { count = can .count; small = λ k below. omega (arith, can .dues (stream-at table k) (held k below)) }
+
+  module _ (ids dues releases : List ℕ) (is-ids : IsIds table ids) (is-dues : IsColumn Due table dues) (is-releases : IsColumn Release table releases) where
     -- ids and due times of the streams are what a queue can file
-    pub can-file : CanFile ids dues (table .count)
+    pub can-file : CanFile ids dues releases (table .count)
     can-file =
         record {
           few = can .count;
@@ -50,25 +53,26 @@ module _ (table : Table) (can : CanCompare table) (long : length (table .streams
           some = λ k below. omega (arith, is-ids .ids k below, can .ids (stream-at table k) (held k below));
           small = λ k below. omega (arith, is-ids .ids k below, can .ids (stream-at table k) (held k below));
           keys-in-range = λ k below. omega (arith, is-dues k below, can .dues (stream-at table k) (held k below));
+          released = λ k below. omega (arith, is-dues k below, is-releases k below);
           span = λ j k low below. omega (arith, is-dues j low, is-dues k below, can .span (stream-at table j) (stream-at table k) (held j low) (held k below));
         }
 
-    -- the pair of a place is the entry of its stream, so the pairs are the streams' entries
-    pairs-are-entries : (e : Entry) → ∥ ((k : ℕ) × (k < table .count) × (e ≡ record { key = getD dues k 0; id = getD ids k 0 })) ∥₁ ↔ ∥ ((s : Stream) × List·Mem s (streams-of table) × (e ≡ entry-of s)) ∥₁
-    pairs-are-entries e = (
-      λ some. ∥∥₁-map some (λ w. (stream-at table (w .0), held (w .0) (w .1), w .2 ∙ pair (w .0) (w .1))),
+    -- the row of a place is the entry of its stream, so the rows are the streams' entries
+    rows-are-entries : (e : Entry) → ∥ ((k : ℕ) × (k < table .count) × (e ≡ row-of ids dues releases k)) ∥₁ ↔ ∥ ((s : Stream) × List·Mem s (streams-of table) × (e ≡ entry-of s)) ∥₁
+    rows-are-entries e = (
+      λ some. ∥∥₁-map some (λ w. (stream-at table (w .0), held (w .0) (w .1), w .2 ∙ row (w .0) (w .1))),
       λ some. ∥∥₁-elim some ∥∥₁-prop (λ w. ∥∥₁-map (placed (w .0) (w .1)) (λ v. (v .0, v .1, w .2 ∙ v .2))),
     )
       where
-        pair : (k : ℕ) → k < table .count → record { key = getD dues k 0; id = getD ids k 0 } ≡ entry-of (stream-at table k)
-        pair k below = entry-path (record { key = getD dues k 0; id = getD ids k 0 }) (entry-of (stream-at table k)) (is-dues k below) (is-ids .ids k below)
+        row : (k : ℕ) → k < table .count → row-of ids dues releases k ≡ entry-of (stream-at table k)
+        row k below = entry-path (row-of ids dues releases k) (entry-of (stream-at table k)) (is-dues k below) (is-releases k below) (is-ids .ids k below)
 
-        placed : (s : Stream) → List·Mem s (streams-of table) → ∥ ((k : ℕ) × (k < table .count) × (entry-of s ≡ record { key = getD dues k 0; id = getD ids k 0 })) ∥₁
-        placed = all-streams (λ s. ∥ ((k : ℕ) × (k < table .count) × (entry-of s ≡ record { key = getD dues k 0; id = getD ids k 0 })) ∥₁) (λ s. ∥∥₁-prop) table fits (λ k below. ∣ (k, below, sym (pair k below)) ∣₁)
+        placed : (s : Stream) → List·Mem s (streams-of table) → ∥ ((k : ℕ) × (k < table .count) × (entry-of s ≡ row-of ids dues releases k)) ∥₁
+        placed = all-streams (λ s. ∥ ((k : ℕ) × (k < table .count) × (entry-of s ≡ row-of ids dues releases k)) ∥₁) (λ s. ∥∥₁-prop) table fits (λ k below. ∣ (k, below, sym (row k below)) ∣₁)
 
-    -- so a queue that files just the pairs files the streams
-    pub filed-exactly : (q : Queue) {b : Bool} → Decides b (Layout.Sound q × FilesJust ids dues (table .count) (entries q)) → Decides b (IsFiled table q)
-    filed-exactly q = same-as (λ w. (w .0, λ e. Iff·trans (w .1 e) (pairs-are-entries e))) (λ w. (w .0, λ e. Iff·trans (w .1 e) (Iff·symm (pairs-are-entries e))))
+    -- so a queue that files just the rows files the streams
+    pub filed-exactly : (q : Queue) {b : Bool} → Decides b (Layout.Sound q × FilesJust ids dues releases (table .count) (entries q)) → Decides b (IsFiled table q)
+    filed-exactly q = same-as (λ w. (w .0, λ e. Iff·trans (w .1 e) (rows-are-entries e))) (λ w. (w .0, λ e. Iff·trans (w .1 e) (Iff·symm (rows-are-entries e))))
 
 -- a planner that is not sound has no start to give
 pub no-start : (p : Planner) → (Sound p → ⊥) → IsSoundStart p 0

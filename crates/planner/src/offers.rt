@@ -95,7 +95,7 @@ pub fn add_sound(p: Planner, id: u32, start: u32, period: u32, deadline: u32) ->
 {
     let table = table_with_sound(p, id, start, period, deadline);
     let filed = p.queue;
-    let queue = queue::insert_sound(filed, id, start + deadline);
+    let queue = queue::insert_sound(filed, id, start + deadline, start);
     Planner {
         slots: p.slots,
         frame: p.frame,

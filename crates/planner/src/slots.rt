@@ -7,10 +7,12 @@ ghost use Rattle.planner.specs.Content.{content};
 ghost use Rattle.planner.specs.Calls.{IsSoundWith};
 ghost use Rattle.planner.specs.Round.{rounded};
 ghost use Rattle.planner.specs.Inner.{CanChoose, CanServeAll, IsChosen, AreFound};
+ghost use Rattle.planner.specs.ServingFacts.{served-planner};
 use super::Planner;
 use basics::wide;
 use queue::Queue;
 use queue::move_at_sound;
+use table::Stream;
 use table::Table;
 
 // The ids chosen for a round, in the first n places, and beside each its stream's row in the table and its place in the queue.
@@ -71,6 +73,22 @@ pub fn choose_sound(p: Planner, start: u32) -> Chosen
     chosen
 }
 
+// The planner with a round held at start, which left these streams and this queue.
+fn after_round(p: Planner, start: u32, streams: [Stream; 64], queue: Queue) -> Planner
+    ensures { λ r. ⌜ r ≡ served-planner p start streams queue ⌝ }
+{
+    let before = p.table;
+    let table = Table {
+        count: before.count,
+        streams,
+    };
+    let mut after = p;
+    after.last = start;
+    after.table = table;
+    after.queue = queue;
+    after
+}
+
 // Each stream chosen passes to its next packet, in the table and in the queue, and the start is the last one.
 pub fn serve_sound(p: Planner, chosen: Chosen, start: u32) -> Planner
     requires { ⌜ CanServeAll p start chosen ⌝ }
@@ -81,6 +99,7 @@ pub fn serve_sound(p: Planner, chosen: Chosen, start: u32) -> Planner
     let mut streams = before.streams;
     let mut ids = filed.ids;
     let mut keys = filed.keys;
+    let mut releases = filed.releases;
     let mut next = filed.next;
     let mut prev = filed.prev;
     let mut k: usize = 0;
@@ -90,22 +109,23 @@ pub fn serve_sound(p: Planner, chosen: Chosen, start: u32) -> Planner
         let stream = streams[row];
         let period = stream.period;
         streams[row] = table::at_next_packet_in_range(stream);
-        move_at_sound(&mut ids, &mut keys, &mut next, &mut prev, place, period);
+        move_at_sound(
+            &mut ids,
+            &mut keys,
+            &mut releases,
+            &mut next,
+            &mut prev,
+            place,
+            period,
+        );
         k += 1;
     }
-    let table = Table {
-        count: before.count,
-        streams,
-    };
     let queue = Queue {
         ids,
         keys,
+        releases,
         next,
         prev,
     };
-    let mut after = p;
-    after.last = start;
-    after.table = table;
-    after.queue = queue;
-    after
+    after_round(p, start, streams, queue)
 }

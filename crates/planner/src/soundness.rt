@@ -14,7 +14,8 @@ pub fn is_filed_in_range(table: Table, queue: Queue) -> bool
 {
     let ids = table::ids_in_range(table);
     let dues = table::column_in_range(table, Column::Due);
-    queue::is_sound_filing_in_range(queue, ids, dues, table.count)
+    let releases = table::column_in_range(table, Column::Release);
+    queue::is_sound_filing_in_range(queue, ids, dues, releases, table.count)
 }
 
 // The planner's next start by the lazy rule, or 0 if it is not sound, on any value whatever. A start is at least 1.

@@ -8,11 +8,11 @@ use native.Mathlib.Decide.{decLe}
 use native.Mathlib.Omega.{arith}
 use lib.ListN.{length}
 use Rattle.basics.specs.Refusals.{Refusal, answer-of, answer-first, answer-later, answer-zero}
-use Rattle.queue.specs.Order.{Entry}
-use Rattle.queue.specs.Entries.{Filed, InBounds}
+use Rattle.queue.specs.Order.{Entry, triple}
+use Rattle.queue.specs.Entries.{put, Filed, InBounds}
 use Rattle.queue.specs.Layout.{entries, Sound}
 use Rattle.queue.specs.Layout.Decide.{decide-sound, decide-filed, decide-in-bounds}
-use Rattle.queue.specs.Calls.{unsound, bad-id, full, filed, out-of-bounds, not-filed, inserted, moved, insert-refusals, delete-refusals, move-refusals, HasEntries, IsChange}
+use Rattle.queue.specs.Calls.{unsound, bad-id, full, filed, out-of-bounds, not-filed, moved, insert-refusals, delete-refusals, move-refusals, HasEntries, IsChange}
 use Rattle.queue.specs.Inner.{CanInsert, CanDelete, CanMove}
 use Rattle.queue.specs.declared.Queue.{Queue}
 
@@ -90,10 +90,10 @@ module _ (q : Queue) (id : ℕ) where
         let f = zero-filed q id last (s .1) in
         record { sound = s .0; filed = f .0; bounds = last-23 (moved id amount (entries q)) (f .1) }
 
-module _ (q : Queue) (id key : ℕ) where
+module _ (q : Queue) (id key release : ℕ) where
   -- the refusals from each number on
   abbrev from-23 : List Refusal
-  from-23 = out-of-bounds (inserted id key (entries q)) ∷ []
+  from-23 = out-of-bounds (put (triple key release id) (entries q)) ∷ []
 
   abbrev from-22 : List Refusal
   from-22 = filed id (entries q) ∷ from-23
@@ -102,34 +102,34 @@ module _ (q : Queue) (id key : ℕ) where
   from-21 = full (entries q) ∷ from-22
 
   module _ (sound : Sound q) where
-    pub insert-answers-6 : (((1 ≤ id) × (id ≤ 32767)) → ⊥) → 6 ≡ answer-of (insert-refusals q id key)
+    pub insert-answers-6 : (((1 ≤ id) × (id ≤ 32767)) → ⊥) → 6 ≡ answer-of (insert-refusals q id key release)
     insert-answers-6 bad = sym (passes-5 q (bad-id id ∷ from-21) sound ∙ answer-first (bad-id id) from-21 bad)
 
     module _ (range : (1 ≤ id) × (id ≤ 32767)) where
-      past-6 : answer-of (insert-refusals q id key) ≡ answer-of from-21
+      past-6 : answer-of (insert-refusals q id key release) ≡ answer-of from-21
       past-6 = passes-5 q (bad-id id ∷ from-21) sound ∙ answer-later (bad-id id) from-21 (λ bad. bad range)
 
-      pub insert-answers-21 : 64 ≤ length (entries q) → 21 ≡ answer-of (insert-refusals q id key)
+      pub insert-answers-21 : 64 ≤ length (entries q) → 21 ≡ answer-of (insert-refusals q id key release)
       insert-answers-21 all = sym (past-6 ∙ answer-first (full (entries q)) from-22 all)
 
       module _ (room : length (entries q) < 64) where
-        past-21 : answer-of (insert-refusals q id key) ≡ answer-of from-22
+        past-21 : answer-of (insert-refusals q id key release) ≡ answer-of from-22
         past-21 = past-6 ∙ answer-later (full (entries q)) from-22 (λ all. lt-irrefl 64 (omega arith))
 
-        pub insert-answers-22 : Filed id (entries q) → 22 ≡ answer-of (insert-refusals q id key)
+        pub insert-answers-22 : Filed id (entries q) → 22 ≡ answer-of (insert-refusals q id key release)
         insert-answers-22 there = sym (past-21 ∙ answer-first (filed id (entries q)) from-23 there)
 
         module _ (new : Filed id (entries q) → ⊥) where
-          past-22 : answer-of (insert-refusals q id key) ≡ answer-of from-23
+          past-22 : answer-of (insert-refusals q id key release) ≡ answer-of from-23
           past-22 = past-21 ∙ answer-later (filed id (entries q)) from-23 new
 
-          pub insert-answers-23 : (InBounds (inserted id key (entries q)) → ⊥) → 23 ≡ answer-of (insert-refusals q id key)
-          insert-answers-23 out = refuses-23 (inserted id key (entries q)) out ∙ sym past-22
+          pub insert-answers-23 : (InBounds (put (triple key release id) (entries q)) → ⊥) → 23 ≡ answer-of (insert-refusals q id key release)
+          insert-answers-23 out = refuses-23 (put (triple key release id) (entries q)) out ∙ sym past-22
 
-          pub insert-answers-0 : InBounds (inserted id key (entries q)) → 0 ≡ answer-of (insert-refusals q id key)
-          insert-answers-0 within = passes-23 (inserted id key (entries q)) within ∙ sym past-22
+          pub insert-answers-0 : InBounds (put (triple key release id) (entries q)) → 0 ≡ answer-of (insert-refusals q id key release)
+          insert-answers-0 within = passes-23 (put (triple key release id) (entries q)) within ∙ sym past-22
 
-  pub insert-can : answer-of (insert-refusals q id key) ≡ 0 → CanInsert q id key
+  pub insert-can : answer-of (insert-refusals q id key release) ≡ 0 → CanInsert q (triple key release id)
   insert-can zero =
       let s = zero-sound q (bad-id id ∷ from-21) zero in
       let r = answer-zero (bad-id id) from-21 (λ e. not-zero 6 (omega arith) e) (s .1) in
@@ -142,7 +142,7 @@ module _ (q : Queue) (id key : ℕ) where
         small = range .1;
         room = less (length (entries q)) (f .0);
         new = n .0;
-        bounds = last-23 (inserted id key (entries q)) (n .1);
+        bounds = last-23 (put (triple key release id) (entries q)) (n .1);
       }
     where
       less : (n : ℕ) → (64 ≤ n → ⊥) → n < 64

@@ -17,4 +17,5 @@ has-shape q vs is =
       keys = sym (length-map (q .keys) (λ v. v)) ∙ fields .1 .0 .1 .0 .1;
       next = sym (length-map (q .next) (λ v. v)) ∙ fields .1 .1 .0 .1 .0 .1;
       prev = sym (length-map (q .prev) (λ v. v)) ∙ fields .1 .1 .1 .0 .1 .0 .1;
+      releases = sym (length-map (q .releases) (λ v. v)) ∙ fields .1 .1 .1 .1 .0 .1 .0 .1;
     }

@@ -1,13 +1,13 @@
--- What each call of the queue answers and leaves, as document 01 says it under "Queue".
+-- What each call of the queue answers and leaves, as document 01 says it under "Queue", and document 02 under (ii).
 use mathlib.Core.Path.{_≡_}
 use mathlib.Core.Logic.{Dec·and, Dec·not}
 use mathlib.Core.List.{List, [], _∷_}
-use Prim.Native.Nat.{ℕ, _+_, _≤_}
+use Prim.Native.Nat.{ℕ, _≤_}
 use native.Mathlib.Decide.{decLe}
 use lib.ListN.{length}
 use Rattle.basics.specs.Refusals.{Refusal, answer-of}
-use Rattle.queue.specs.Order.{Entry}
-use Rattle.queue.specs.Entries.{put, without, after, key-of, Filed, InBounds}
+use Rattle.queue.specs.Order.{Entry, triple}
+use Rattle.queue.specs.Entries.{put, without, after, filed-as, moved-on, Filed, InBounds}
 use Rattle.queue.specs.Layout.{entries, Sound}
 use Rattle.queue.specs.Layout.Decide.{decide-sound, decide-filed, decide-in-bounds}
 use Rattle.queue.specs.declared.Queue.{Queue}
@@ -30,7 +30,8 @@ full es = record { number = 21; Applies = 64 ≤ length es; decided = decLe 64 (
 abbrev pub filed : ℕ → List Entry → Refusal
 filed id es = record { number = 22; Applies = Filed id es; decided = decide-filed id es }
 
--- 01: "23 if the change would leave a key above 2,000,000,000 or a span of largest minus smallest key above 479".
+-- 01: "23 if the change would leave a key above 2,000,000,000 or a span of largest minus smallest key above 479". 02 (ii): or a release above its
+-- key.
 abbrev pub out-of-bounds : List Entry → Refusal
 out-of-bounds es = record { number = 23; Applies = InBounds es → ⊥; decided = Dec·not (decide-in-bounds es) }
 
@@ -38,17 +39,13 @@ out-of-bounds es = record { number = 23; Applies = InBounds es → ⊥; decided 
 abbrev pub not-filed : ℕ → List Entry → Refusal
 not-filed id es = record { number = 24; Applies = Filed id es → ⊥; decided = Dec·not (decide-filed id es) }
 
--- The entries after each change.
-abbrev pub inserted : ℕ → ℕ → List Entry → List Entry
-inserted id key es = put (record { key = key; id = id }) es
-
--- 01: "Move adds a given amount to a key".
+-- The entries after a move. 01: "Move adds a given amount to a key"; 02 (ii): "move adds its amount to both".
 abbrev pub moved : ℕ → ℕ → List Entry → List Entry
-moved id amount es = put (record { key = key-of id es + amount; id = id }) (without id es)
+moved id amount es = put (moved-on amount (filed-as id es)) (without id es)
 
 -- 01: "Insert refuses 5 .., 6, 21 .., 22 .., 23".
-abbrev pub insert-refusals : Queue → ℕ → ℕ → List Refusal
-insert-refusals q id key = unsound q ∷ bad-id id ∷ full (entries q) ∷ filed id (entries q) ∷ out-of-bounds (inserted id key (entries q)) ∷ []
+abbrev pub insert-refusals : Queue → ℕ → ℕ → ℕ → List Refusal
+insert-refusals q id key release = unsound q ∷ bad-id id ∷ full (entries q) ∷ filed id (entries q) ∷ out-of-bounds (put (triple key release id) (entries q)) ∷ []
 
 -- 01: "Delete refuses 5, 24".
 abbrev pub delete-refusals : Queue → ℕ → List Refusal
@@ -71,20 +68,20 @@ pub record IsChange (refusals : List Refusal) (q : Queue) (es : List Entry) (r :
   pub sound : answer-of refusals ≡ 0 → Sound (r .queue)
   pub content : answer-of refusals ≡ 0 → entries (r .queue) ≡ es
 
--- 01: "A refused least or next gives key 0 and id 0."
+-- 01: "A refused least or next gives key 0 and id 0." 02 (ii): release 0 too.
 abbrev pub refused-find : ℕ → Found
-refused-find number = record { answer = number; key = 0; id = 0 }
+refused-find number = record { answer = number; key = 0; release = 0; id = 0 }
 
 -- The first of these entries: 5 for links not sound, 25 if there is none.
 unfoldable pub first-of : {q : Queue} → Dec (Sound q) → List Entry → Found
 first-of (no _) es = refused-find 5
 first-of (yes _) [] = refused-find 25
-first-of (yes _) (e ∷ es) = record { answer = 0; key = e .key; id = e .id }
+first-of (yes _) (e ∷ es) = record { answer = 0; key = e .key; release = e .release; id = e .id }
 
 -- 01: "Least refuses 5, 25 if empty."
 abbrev pub least-of : Queue → Found
 least-of q = first-of (decide-sound q) (entries q)
 
--- 01: "Next takes a key and an id, filed or not, and gives the first pair after it: 5, 25 if none."
-abbrev pub next-of : Queue → ℕ → ℕ → Found
-next-of q key id = first-of (decide-sound q) (after (record { key = key; id = id }) (entries q))
+-- 01: "Next takes a key and an id, filed or not, and gives the first pair after it: 5, 25 if none." 02 (ii): "Next takes a release too".
+abbrev pub next-of : Queue → ℕ → ℕ → ℕ → Found
+next-of q key release id = first-of (decide-sound q) (after (triple key release id) (entries q))

@@ -1,54 +1,48 @@
 -- Laws of the order of entries and of lists in order.
 use mathlib.Core.Path.{_≡_, refl, sym, ap, subst⁻¹}
-use mathlib.Core.Logic.{inl, inr, _∨₁_, Or·elim, ite}
-use mathlib.Core.HLevel.{hedberg, ×-prop}
+use mathlib.Core.Logic.{_∨₁_, Or·elim, ite}
+use mathlib.Core.HLevel.{hedberg}
 use mathlib.Core.List.{List, [], _∷_, List·Mem, Pairwise, Pairwise·cons, pairwise-cons, Perm, Perm·refl, Perm·cons, Perm·swap, Perm·trans, Perm·mem-iff, mem-cons-self, mem-cons-of-mem, not-mem-nil, eq-or-mem-of-mem-cons}
-use Prim.Native.Nat.{suc, _<_}
+use Prim.Native.Nat.{ℕ, suc, _<_}
 use native.Mathlib.Bridge.{le-prop}
-use native.Mathlib.Nat.{lt-irrefl}
-use native.Mathlib.Decide.{decLt, ℕ-discrete}
+use native.Mathlib.Decide.{ℕ-discrete}
 use native.Mathlib.Omega.{arith}
 use lib.ListN.{length}
 use Rattle.queue.specs.Order.{Entry, Before, before}
 use Rattle.queue.specs.Entries.{put}
 use Rattle.basics.specs.Sorted.{sorted-unique}
+use Rattle.basics.specs.Lexicographic.{then-asym, then-trans, then-prop, then-total}
 
-pub entry-path : (a b : Entry) → a .key ≡ b .key → a .id ≡ b .id → a ≡ b
-entry-path a b key id = λ i. record { key = key i; id = id i }
+pub entry-path : (a b : Entry) → a .key ≡ b .key → a .release ≡ b .release → a .id ≡ b .id → a ≡ b
+entry-path a b key release id = λ i. record { key = key i; release = release i; id = id i }
 
 pub entry-discrete : Discrete Entry
-entry-discrete a b = go (ℕ-discrete (a .key) (b .key)) (ℕ-discrete (a .id) (b .id))
+entry-discrete a b = go (ℕ-discrete (a .key) (b .key)) (ℕ-discrete (a .release) (b .release)) (ℕ-discrete (a .id) (b .id))
   where
-    go : Dec (a .key ≡ b .key) → Dec (a .id ≡ b .id) → Dec (a ≡ b)
-    go (no key) id = no (λ e. key (ap (λ (x : Entry). x .key) e))
-    go (yes key) (no id) = no (λ e. id (ap (λ (x : Entry). x .id) e))
-    go (yes key) (yes id) = yes (entry-path a b key id)
+    go : Dec (a .key ≡ b .key) → Dec (a .release ≡ b .release) → Dec (a .id ≡ b .id) → Dec (a ≡ b)
+    go (no key) release id = no (λ e. key (ap (λ (x : Entry). x .key) e))
+    go (yes key) (no release) id = no (λ e. release (ap (λ (x : Entry). x .release) e))
+    go (yes key) (yes release) (no id) = no (λ e. id (ap (λ (x : Entry). x .id) e))
+    go (yes key) (yes release) (yes id) = yes (entry-path a b key release id)
 
 pub entry-set : IsSet Entry
 entry-set = hedberg entry-discrete
 
 -- the order is strict and total
 pub before-asym : (a b : Entry) → Before a b → Before b a → ⊥
-before-asym a b (inl l) (inl m) = omega arith
-before-asym a b (inl l) (inr m) = omega (arith, m .0)
-before-asym a b (inr l) (inl m) = omega (arith, l .0)
-before-asym a b (inr l) (inr m) = omega (arith, l .1, m .1)
+before-asym a b = then-asym (then-asym (λ l m. omega (arith, l, m)))
 
 pub before-trans : (a b c : Entry) → Before a b → Before b c → Before a c
-before-trans a b c (inl l) (inl m) = inl (omega arith)
-before-trans a b c (inl l) (inr m) = inl (omega (arith, m .0))
-before-trans a b c (inr l) (inl m) = inl (omega (arith, l .0))
-before-trans a b c (inr l) (inr m) = inr (omega (arith, l .0, m .0), omega (arith, l .1, m .1))
+before-trans a b c = then-trans (then-trans (λ l m. omega (arith, l, m)))
+
+pub before-prop : (a b : Entry) → IsProp (Before a b)
+before-prop a b = then-prop (then-prop le-prop)
 
 pub before-total : (a b : Entry) → (a ≡ b → ⊥) → (Before a b → ⊥) → Before b a
-before-total a b differ not-before = go (decLt (b .key) (a .key)) (decLt (b .id) (a .id)) (ℕ-discrete (a .key) (b .key)) (ℕ-discrete (a .id) (b .id))
+before-total a b differ = then-total (λ key. then-total (λ release not-less. above (a .id) (b .id) not-less (λ id. differ (entry-path a b key release id))))
   where
-    go : Dec (b .key < a .key) → Dec (b .id < a .id) → Dec (a .key ≡ b .key) → Dec (a .id ≡ b .id) → Before b a
-    go (yes less) id key same = inl less
-    go (no not-less) id (no key) same = absurd (not-before (inl (omega arith)))
-    go (no not-less) (yes id) (yes key) same = inr (sym key, id)
-    go (no not-less) (no id) (yes key) (yes same) = absurd (differ (entry-path a b key same))
-    go (no not-less) (no id) (yes key) (no same) = absurd (not-before (inr (key, omega arith)))
+    above : (m n : ℕ) → (m < n → ⊥) → (m ≡ n → ⊥) → n < m
+    above m n not-less other = omega arith
 
 abbrev pub InOrder : List Entry → Type 0
 InOrder = Pairwise Before
@@ -79,12 +73,6 @@ put-length e (x ∷ xs) = go (before e x) (put-length e xs)
     go : (d : Dec (Before e x)) → length (put e xs) ≡ suc (length xs) → length (ite d (e ∷ x ∷ xs) (x ∷ put e xs)) ≡ suc (suc (length xs))
     go (yes first) below = refl
     go (no later) below = ap suc below
-
-pub before-prop : (a b : Entry) → IsProp (Before a b)
-before-prop a b (inl l) (inl m) = ap inl (le-prop l m)
-before-prop a b (inl l) (inr m) = absurd (lt-irrefl (a .key) (omega (arith, m .0)))
-before-prop a b (inr l) (inl m) = absurd (lt-irrefl (a .key) (omega (arith, l .0)))
-before-prop a b (inr l) (inr m) = ap inr (×-prop (hedberg ℕ-discrete (a .key) (b .key)) le-prop l m)
 
 -- an entry that is not there yet is put in order
 pub put-in-order : (e : Entry) (es : List Entry) → InOrder es → ((x : Entry) → List·Mem x es → x ≡ e → ⊥) → InOrder (put e es)

@@ -4,16 +4,18 @@ use Prim.Native.Nat.{ℕ, _+_, _≤_, _<_}
 use mathlib.Core.List.{List}
 use lib.ListN.{length, getD, set}
 use Rattle.basics.specs.Places.{Rises}
-use Rattle.queue.specs.Order.{Entry, Before}
-use Rattle.queue.specs.Entries.{Filed, InBounds}
-use Rattle.queue.specs.Calls.{inserted, moved, HasEntries}
-use Rattle.queue.specs.Layout.{id-at, key-at, prev-at, next-at, entry-at, Holds, IsNode, bucket-of-key, bucket-of, low, high, entries, Sound}
+use Rattle.queue.specs.Order.{Entry, Before, triple}
+use Rattle.queue.specs.Entries.{put, row-of, Filed, InBounds}
+use Rattle.queue.specs.Calls.{moved, HasEntries}
+use Rattle.queue.specs.Layout.{id-at, key-at, release-at, prev-at, entry-at, Holds, IsNode, bucket-of-key, bucket-of, entries, Sound}
+use Rattle.queue.specs.Layout.Ranks.{rank-at, low, high}
 use Rattle.queue.specs.declared.Queue.{Queue}
 
 -- The arrays are as long as their types say.
 pub record HasShape (q : Queue) : Type 0 where
   pub ids : length (q .ids) ≡ 64
   pub keys : length (q .keys) ≡ 64
+  pub releases : length (q .releases) ≡ 64
   pub next : length (q .next) ≡ 544
   pub prev : length (q .prev) ≡ 544
 
@@ -24,39 +26,68 @@ pub record IsPlaceOf (ids : List ℕ) (id i : ℕ) : Type 0 where
   pub absent : i ≡ 64 → (j : ℕ) → j < 64 → getD ids j 0 ≡ id → ⊥
 
 -- x is a place, n and the node before it are nodes.
-abbrev pub CanPut : Queue → ℕ → ℕ → Type 0
-CanPut q x n = (x < 64) × (n < 544) × (prev-at q n < 544)
+abbrev pub CanLink : (prev : List ℕ) → ℕ → ℕ → Type 0
+CanLink prev x n = (x < 64) × (n < 544) × (getD prev n 0 < 544)
 
--- The queue with an entry put at place x between n and the node before it.
-abbrev pub put-before : Queue → ℕ → ℕ → ℕ → ℕ → Queue
-put-before q x id key n =
-    record {
-      ids = set (q .ids) x id;
-      keys = set (q .keys) x key;
-      next = set (set (q .next) (prev-at q n) x) x n;
-      prev = set (set (q .prev) n x) x (prev-at q n);
-    }
+-- The links with x put between n and the node before it.
+abbrev pub linked-next : (next prev : List ℕ) → ℕ → ℕ → List ℕ
+linked-next next prev x n = set (set next (getD prev n 0) x) x n
+
+abbrev pub linked-prev : (prev : List ℕ) → ℕ → ℕ → List ℕ
+linked-prev prev x n = set (set prev n x) x (getD prev n 0)
 
 -- x is a place, and the nodes beside it are nodes.
-abbrev pub CanTake : Queue → ℕ → Type 0
-CanTake q x = (x < 64) × (next-at q x < 544) × (prev-at q x < 544)
+abbrev pub CanUnlink : (next prev : List ℕ) → ℕ → Type 0
+CanUnlink next prev x = (x < 64) × (getD next x 0 < 544) × (getD prev x 0 < 544)
 
--- The queue with the entry at place x taken out from between its neighbours, and zeros there.
+-- The links with x taken out from between its neighbours, and zeros there.
+abbrev pub unlinked-next : (next prev : List ℕ) → ℕ → List ℕ
+unlinked-next next prev x = set (set next (getD prev x 0) (getD next x 0)) x 0
+
+abbrev pub unlinked-prev : (next prev : List ℕ) → ℕ → List ℕ
+unlinked-prev next prev x = set (set prev (getD next x 0) (getD prev x 0)) x 0
+
+-- The queue with an entry put at place x between n and the node before it.
+abbrev pub put-before : Queue → ℕ → Entry → ℕ → Queue
+put-before q x e n =
+    record {
+      ids = set (q .ids) x (e .id);
+      keys = set (q .keys) x (e .key);
+      releases = set (q .releases) x (e .release);
+      next = linked-next (q .next) (q .prev) x n;
+      prev = linked-prev (q .prev) x n;
+    }
+
+-- The queue with the entry at place x taken out, and zeros there.
 abbrev pub taken-out : Queue → ℕ → Queue
 taken-out q x =
     record {
       ids = set (q .ids) x 0;
       keys = set (q .keys) x 0;
-      next = set (set (q .next) (prev-at q x) (next-at q x)) x 0;
-      prev = set (set (q .prev) (next-at q x) (prev-at q x)) x 0;
+      releases = set (q .releases) x 0;
+      next = unlinked-next (q .next) (q .prev) x;
+      prev = unlinked-prev (q .next) (q .prev) x;
     }
 
--- n is the node before which an id goes in the bucket of a key: ids before it are smaller, ids from it on larger.
-pub record IsPosition (q : Queue) (key id n : ℕ) : Type 0 where
-  pub node : IsNode (id-at q) n
+-- What putting an entry before n, and taking one out at x, need of a queue.
+abbrev pub CanPut : Queue → ℕ → ℕ → Type 0
+CanPut q x n = CanLink (q .prev) x n
+
+abbrev pub CanTake : Queue → ℕ → Type 0
+CanTake q x = CanUnlink (q .next) (q .prev) x
+
+-- n is the node before which a rank goes in the bucket of a key: ranks before it are smaller, ranks from it on larger.
+pub record IsPosition (q : Queue) (key rank n : ℕ) : Type 0 where
+  pub node : IsNode (rank-at q) n
   pub bucket : bucket-of (key-at q) n ≡ bucket-of-key key
-  pub above : low (id-at q) (prev-at q n) < id
-  pub below : id < high (id-at q) n
+  pub above : low (rank-at q) (prev-at q n) < rank
+  pub below : rank < high (rank-at q) n
+
+-- A rank in range that no place has.
+pub record IsNewRank (q : Queue) (rank : ℕ) : Type 0 where
+  pub some : 1 ≤ rank
+  pub small : rank < 65_536_000_032_768
+  pub unused : (i : ℕ) → i < 64 → rank-at q i ≡ rank → ⊥
 
 -- An id in range that no place has.
 pub record IsNew (q : Queue) (id : ℕ) : Type 0 where
@@ -73,13 +104,13 @@ abbrev pub KeyFits : (ids keys : List ℕ) → ℕ → ℕ → Type 0
 KeyFits ids keys out key = (key ≤ 2_000_000_000) × ((i : ℕ) → i < 64 → PlaceFits ids keys out key i)
 
 -- What insert, delete and move need beyond a sound queue: that no refusal applies.
-pub record CanInsert (q : Queue) (id key : ℕ) : Type 0 where
+pub record CanInsert (q : Queue) (e : Entry) : Type 0 where
   pub sound : Sound q
-  pub some : 1 ≤ id
-  pub small : id ≤ 32767
+  pub some : 1 ≤ e .id
+  pub small : e .id ≤ 32767
   pub room : length (entries q) < 64
-  pub new : Filed id (entries q) → ⊥
-  pub bounds : InBounds (inserted id key (entries q))
+  pub new : Filed (e .id) (entries q) → ⊥
+  pub bounds : InBounds (put e (entries q))
 
 pub record CanDelete (q : Queue) (id : ℕ) : Type 0 where
   pub sound : Sound q
@@ -102,46 +133,47 @@ pub record IsMovedAt (q : Queue) (x amount : ℕ) (r : Queue) : Type 0 where
   pub has-entries : HasEntries r (moved (id-at q x) amount (entries q))
   pub places : r .ids ≡ q .ids
 
--- Every entry after a pair has its key among the 480 from a given key on.
+-- Every entry after a point has its key among the 480 from a given key on.
 abbrev pub SearchFrom : Queue → ℕ → Entry → Type 0
-SearchFrom q from pair = (i : ℕ) → Holds q i → Before pair (entry-at q i) → (from ≤ key-at q i) × (key-at q i ≤ from + 479)
+SearchFrom q from point = (i : ℕ) → Holds q i → Before point (entry-at q i) → (from ≤ key-at q i) × (key-at q i ≤ from + 479)
 
--- x is the place of the first entry after a pair, or 64 where none is after it.
-pub record IsFirstAfter (q : Queue) (pair : Entry) (x : ℕ) : Type 0 where
+-- x is the place of the first entry after a point, or 64 where none is after it.
+pub record IsFirstAfter (q : Queue) (point : Entry) (x : ℕ) : Type 0 where
   pub within : x ≤ 64
-  pub found : x < 64 → Holds q x × Before pair (entry-at q x)
-  pub first : x < 64 → (i : ℕ) → Holds q i → Before pair (entry-at q i) → Before (entry-at q i) (entry-at q x) → ⊥
-  pub none : x ≡ 64 → (i : ℕ) → Holds q i → Before pair (entry-at q i) → ⊥
+  pub found : x < 64 → Holds q x × Before point (entry-at q x)
+  pub first : x < 64 → (i : ℕ) → Holds q i → Before point (entry-at q i) → Before (entry-at q i) (entry-at q x) → ⊥
+  pub none : x ≡ 64 → (i : ℕ) → Holds q i → Before point (entry-at q i) → ⊥
 
 -- A node in the bucket of a key that some entry has.
 pub record StandsAt (q : Queue) (key n : ℕ) : Type 0 where
-  pub node : IsNode (id-at q) n
+  pub node : IsNode (rank-at q) n
   pub in-bucket : bucket-of (key-at q) n ≡ bucket-of-key key
   pub held : ∥ ((j : ℕ) × Holds q j × (key-at q j ≡ key)) ∥₁
 
--- The pair that a node stands for: an entry's own, or one before all entries of the bucket.
-abbrev pub pair-at : Queue → ℕ → ℕ → Entry
-pair-at q key n = record { key = key; id = low (id-at q) n }
+-- What a node stands for: an entry, or something before all entries of the bucket.
+abbrev pub point-at : Queue → ℕ → ℕ → Entry
+point-at q key n = record { key = key; release = low (release-at q) n; id = low (id-at q) n }
 
 -- x is the place of the first entry after a node, in every sound queue with these keys and links.
 abbrev pub IsFollowing : (keys next : List ℕ) → ℕ → ℕ → ℕ → Type 0
-IsFollowing keys next key n x = (q : Queue) → q .keys ≡ keys → q .next ≡ next → Sound q → StandsAt q key n → IsFirstAfter q (pair-at q key n) x
+IsFollowing keys next key n x = (q : Queue) → q .keys ≡ keys → q .next ≡ next → Sound q → StandsAt q key n → IsFirstAfter q (point-at q key n) x
 
 -- The first places hold the first n entries, in order.
 abbrev pub IsInOrder : Queue → ℕ → List ℕ → Type 0
-IsInOrder q n places = (k : ℕ) → k < n → (getD places k 0 < 64) × (entry-at q (getD places k 0) ≡ getD (entries q) k (record { key = 0; id = 0 }))
+IsInOrder q n places = (k : ℕ) → k < n → (getD places k 0 < 64) × (entry-at q (getD places k 0) ≡ getD (entries q) k (triple 0 0 0))
 
--- n pairs of key and id that a sound queue can file, in ascending id, with larger numbers behind them.
-pub record CanFile (ids keys : List ℕ) (n : ℕ) : Type 0 where
+-- n rows that a sound queue can file, in ascending id, with larger numbers behind them.
+pub record CanFile (ids keys releases : List ℕ) (n : ℕ) : Type 0 where
   pub few : n ≤ 64
   pub rise : Rises ids
   pub ascend : (i j : ℕ) → i < j → j < n → getD ids i 0 < getD ids j 0
   pub some : (i : ℕ) → i < n → 1 ≤ getD ids i 0
   pub small : (i : ℕ) → i < n → getD ids i 0 ≤ 32767
   pub keys-in-range : (i : ℕ) → i < n → getD keys i 0 ≤ 2_000_000_000
+  pub released : (i : ℕ) → i < n → getD releases i 0 ≤ getD keys i 0
   pub span : (i j : ℕ) → i < n → j < n → getD keys i 0 ≤ getD keys j 0 + 479
 
--- r is which of the first n pairs this is, or 64 where it is none of them.
-pub record IsPair (ids keys : List ℕ) (n id key r : ℕ) : Type 0 where
-  pub found : (r ≡ 64 → ⊥) → (r < n) × (getD ids r 0 ≡ id) × (getD keys r 0 ≡ key)
-  pub absent : r ≡ 64 → (i : ℕ) → i < n → getD ids i 0 ≡ id → getD keys i 0 ≡ key → ⊥
+-- r is which of the first n rows this entry is, or 64 where it is none of them.
+pub record IsRow (ids keys releases : List ℕ) (n : ℕ) (e : Entry) (r : ℕ) : Type 0 where
+  pub found : (r ≡ 64 → ⊥) → (r < n) × (row-of ids keys releases r ≡ e)
+  pub absent : r ≡ 64 → (i : ℕ) → i < n → row-of ids keys releases i ≡ e → ⊥

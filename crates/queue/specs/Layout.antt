@@ -1,5 +1,6 @@
 -- How a queue's entries lie in its places and links, and when that is sound. The modules below this one can open these definitions;
 -- nobody else can.
+pub mod Ranks
 pub mod LinkFacts
 pub mod LinkChange
 pub mod Collected
@@ -24,13 +25,13 @@ use mathlib.Core.List.{List, [], _∷_, _++_}
 use Prim.Native.Nat.{ℕ, zero, suc, _+_, _-_, _%_, _≤_, _<_}
 use native.Mathlib.Decide.{decLe, decLt}
 use lib.ListN.{getD, replicate}
-use Rattle.queue.specs.Order.{Entry}
+use Rattle.queue.specs.Order.{Entry, Before}
 use Rattle.queue.specs.Entries.{put}
 use Rattle.queue.specs.declared.Queue.{Queue}
 
--- A queue of these ids, keys and links.
-abbrev pub queue-of : (ids keys next prev : List ℕ) → Queue
-queue-of ids keys next prev = record { ids = ids; keys = keys; next = next; prev = prev }
+-- A queue of these ids, keys, releases and links.
+abbrev pub queue-of : (ids keys releases next prev : List ℕ) → Queue
+queue-of ids keys releases next prev = record { ids = ids; keys = keys; releases = releases; next = next; prev = prev }
 
 -- The n numbers from x on.
 pub numbers-from : ℕ → ℕ → List ℕ
@@ -41,16 +42,19 @@ numbers-from x (suc n) = x ∷ numbers-from (suc x) n
 pub lone-heads : List ℕ
 lone-heads = replicate 64 0 ++ numbers-from 64 480
 
--- The empty queue, one value: id 0 and key 0 at every place, and no link from a head to another node.
+-- The empty queue, one value: id 0, key 0 and release 0 at every place, and no link from a head to another node.
 pub empty-queue : Queue
-empty-queue = queue-of (replicate 64 0) (replicate 64 0) lone-heads lone-heads
+empty-queue = queue-of (replicate 64 0) (replicate 64 0) (replicate 64 0) lone-heads lone-heads
 
--- The id and the key at a place, and the links of a node.
+-- The id, the key and the release at a place, and the links of a node.
 abbrev pub id-at : Queue → ℕ → ℕ
 id-at q i = getD (q .ids) i 0
 
 abbrev pub key-at : Queue → ℕ → ℕ
 key-at q i = getD (q .keys) i 0
+
+abbrev pub release-at : Queue → ℕ → ℕ
+release-at q i = getD (q .releases) i 0
 
 abbrev pub next-at : Queue → ℕ → ℕ
 next-at q x = getD (q .next) x 0
@@ -59,20 +63,20 @@ abbrev pub prev-at : Queue → ℕ → ℕ
 prev-at q x = getD (q .prev) x 0
 
 abbrev pub entry-at : Queue → ℕ → Entry
-entry-at q i = record { key = key-at q i; id = id-at q i }
+entry-at q i = record { key = key-at q i; release = release-at q i; id = id-at q i }
 
 -- A place holds an entry unless its id is 0.
 abbrev pub Holds : Queue → ℕ → Type 0
 Holds q i = (i < 64) × (1 ≤ id-at q i)
 
--- The entries in the first n places, in order.
-pub collected : (ids keys : ℕ → ℕ) → ℕ → List Entry
-collected ids keys zero = []
-collected ids keys (suc i) = ite (decLe 1 (ids i)) (put (record { key = keys i; id = ids i }) (collected ids keys i)) (collected ids keys i)
+-- The entries in the first n places, in order. A place with id 0 is free.
+pub collected : (at : ℕ → Entry) → ℕ → List Entry
+collected at zero = []
+collected at (suc i) = ite (decLe 1 (at i .id)) (put (at i) (collected at i)) (collected at i)
 
--- A queue's entries, sorted by key, then id.
+-- A queue's entries, sorted by key, then release, then id.
 pub entries : Queue → List Entry
-entries q = collected (id-at q) (key-at q) 64
+entries q = collected (entry-at q) 64
 
 -- A node is a place that holds an entry, or the head of a bucket: node 64 + b for bucket b.
 abbrev pub IsNode : (ids : ℕ → ℕ) → ℕ → Type 0
@@ -90,30 +94,26 @@ bucket-after bucket = (bucket + 1) % 480
 pub bucket-of : (keys : ℕ → ℕ) → ℕ → ℕ
 bucket-of keys x = ite (decLt x 64) (bucket-of-key (keys x)) (x - 64)
 
--- Ids rise along a list from its head, which counts as 0 where the list leaves it and as 32,768 where the list comes back to it.
-pub low : (ids : ℕ → ℕ) → ℕ → ℕ
-low ids x = ite (decLt x 64) (ids x) 0
-
-pub high : (ids : ℕ → ℕ) → ℕ → ℕ
-high ids x = ite (decLt x 64) (ids x) 32768
-
--- 01: "in its key's bucket and in order, every link matched by its return link", said of one node.
-pub record Linked (ids keys next prev : ℕ → ℕ) (x : ℕ) : Type 0 where
-  next-is-node : IsNode ids (next x)
-  next-in-bucket : bucket-of keys (next x) ≡ bucket-of keys x
+-- 01: "in its key's bucket and in order, every link matched by its return link", said of one node. A list runs from its head and back to it, so
+-- the order is asked of two entries that follow one another.
+pub record Linked (places : ℕ → Entry) (next prev : ℕ → ℕ) (x : ℕ) : Type 0 where
+  next-is-node : IsNode (λ i. places i .id) (next x)
+  next-in-bucket : bucket-of (λ i. places i .key) (next x) ≡ bucket-of (λ i. places i .key) x
   next-returns : prev (next x) ≡ x
-  in-order : low ids x < high ids (next x)
-  prev-is-node : IsNode ids (prev x)
+  in-order : x < 64 → next x < 64 → Before (places x) (places (next x))
+  prev-is-node : IsNode (λ i. places i .id) (prev x)
   prev-returns : next (prev x) ≡ x
 
-abbrev pub AllLinked : (ids keys next prev : ℕ → ℕ) → Type 0
-AllLinked ids keys next prev = (x : ℕ) → IsNode ids x → Linked ids keys next prev x
+abbrev pub AllLinked : (places : ℕ → Entry) (next prev : ℕ → ℕ) → Type 0
+AllLinked places next prev = (x : ℕ) → IsNode (λ i. places i .id) x → Linked places next prev x
 
 -- 01: "Links are sound if at most 64 ids are filed, each 1 to 32,767 and once only, in its key's bucket and in order, every link matched by
--- its return link, and no key or span is beyond the bounds of 23." There are 64 places, so no more than 64 ids can be filed.
+-- its return link, and no key or span is beyond the bounds of 23", which 02 (ii) extends to releases. There are 64 places, so no more than 64
+-- ids can be filed.
 pub record Sound (q : Queue) : Type 0 where
   ids-in-range : (i : ℕ) → Holds q i → id-at q i ≤ 32767
   once : (i j : ℕ) → Holds q i → Holds q j → id-at q i ≡ id-at q j → i ≡ j
   keys-in-range : (i : ℕ) → Holds q i → key-at q i ≤ 2_000_000_000
+  released : (i : ℕ) → Holds q i → release-at q i ≤ key-at q i
   span : (i j : ℕ) → Holds q i → Holds q j → key-at q i ≤ key-at q j + 479
-  links : AllLinked (id-at q) (key-at q) (next-at q) (prev-at q)
+  links : AllLinked (entry-at q) (next-at q) (prev-at q)

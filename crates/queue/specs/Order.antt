@@ -1,23 +1,21 @@
 -- Entries and their order.
-use mathlib.Core.Path.{_≡_}
-use mathlib.Core.Logic.{_⊎_, inl, inr, ⊎-elim}
 use Prim.Native.Nat.{ℕ, _<_}
-use native.Mathlib.Decide.{decLt, ℕ-discrete}
+use native.Mathlib.Decide.{decLt}
+use Rattle.basics.specs.Lexicographic.{Then, decide-then}
 
--- An entry: an id filed under a key.
+-- An entry: an id filed under a key, with a release.
 pub record Entry : Type 0 where
   pub key : ℕ
+  pub release : ℕ
   pub id : ℕ
 
--- The order of the queue: by key; equal keys by smaller id.
+-- A key, a release and an id as an entry, filed or not.
+abbrev pub triple : (key release id : ℕ) → Entry
+triple key release id = record { key = key; release = release; id = id }
+
+-- The order of the queue: by key; equal keys by earlier release; equal in both by smaller id.
 abbrev pub Before : Entry → Entry → Type 0
-Before a b = (a .key < b .key) ⊎ ((a .key ≡ b .key) × (a .id < b .id))
+Before a b = Then (a .key) (b .key) (Then (a .release) (b .release) (a .id < b .id))
 
 pub before : (a b : Entry) → Dec (Before a b)
-before a b = go (decLt (a .key) (b .key)) (ℕ-discrete (a .key) (b .key)) (decLt (a .id) (b .id))
-  where
-    go : Dec (a .key < b .key) → Dec (a .key ≡ b .key) → Dec (a .id < b .id) → Dec (Before a b)
-    go (yes less) same id = yes (inl less)
-    go (no not-less) (no other) id = no (λ e. ⊎-elim not-less (λ w. other (w .0)) e)
-    go (no not-less) (yes same) (yes id) = yes (inr (same, id))
-    go (no not-less) (yes same) (no id) = no (λ e. ⊎-elim not-less (λ w. id (w .1)) e)
+before a b = decide-then (a .key) (b .key) (decide-then (a .release) (b .release) (decLt (a .id) (b .id)))

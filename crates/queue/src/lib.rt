@@ -1,10 +1,12 @@
-// The deadline queue: ids filed under keys, in 480 circular buckets by key modulo 480, each a doubly linked list ordered by id.
+// The deadline queue: ids filed under keys, each with a release, in 480 circular buckets by key modulo 480. A bucket is a doubly linked list
+// ordered by release, then id.
 // Every call here tests the queue it is handed. A layer that knows its queue to be sound calls the forms whose names end in _sound.
 ghost use mathlib.Core.Path.{_≡_};
 ghost use Rattle.basics.specs.Refusals.{answer-of};
-ghost use Rattle.queue.specs.Entries.{without};
+ghost use Rattle.queue.specs.Order.{triple};
+ghost use Rattle.queue.specs.Entries.{put, without};
 ghost use Rattle.queue.specs.Layout.{entries, empty-queue};
-ghost use Rattle.queue.specs.Calls.{insert-refusals, delete-refusals, move-refusals, inserted, moved, IsChange, least-of, next-of};
+ghost use Rattle.queue.specs.Calls.{insert-refusals, delete-refusals, move-refusals, moved, IsChange, least-of, next-of};
 pub use filing::is_sound_filing_in_range;
 use links::place_of;
 pub use order::places_in_order_sound;
@@ -32,6 +34,7 @@ pub struct Queue {
     pub keys: [u32; 64],
     pub next: [u16; 544],
     pub prev: [u16; 544],
+    pub releases: [u32; 64],
 }
 
 // What a change answers, and the queue after it.
@@ -40,10 +43,11 @@ pub struct Changed {
     pub queue: Queue,
 }
 
-// What a search answers: a key and an id.
+// What a search answers: an entry, or zeros.
 pub struct Found {
     pub answer: u32,
     pub key: u32,
+    pub release: u32,
     pub id: u32,
 }
 
@@ -60,13 +64,14 @@ pub fn empty() -> Queue
     Queue {
         ids: [0u16; 64],
         keys: [0u32; 64],
+        releases: [0u32; 64],
         next: links,
         prev: links,
     }
 }
 
-fn insert_refusal(q: Queue, id: u32, key: u32) -> u32
-    ensures { λ r. ⌜ r ≡ answer-of (insert-refusals q id key) ⌝ }
+fn insert_refusal(q: Queue, id: u32, key: u32, release: u32) -> u32
+    ensures { λ r. ⌜ r ≡ answer-of (insert-refusals q id key release) ⌝ }
 {
     if !is_sound(q) {
         return 5;
@@ -83,21 +88,24 @@ fn insert_refusal(q: Queue, id: u32, key: u32) -> u32
     if place_of(&q.ids, id) != 64 {
         return 22;
     }
+    if key < release {
+        return 23;
+    }
     if !key_fits(&q.ids, &q.keys, 64, key as u64) {
         return 23;
     }
     0
 }
 
-// Files an id under a key.
-pub fn insert(q: Queue, id: u32, key: u32) -> Changed
-    ensures { λ r. ⌜ IsChange (insert-refusals q id key) q (inserted id key (entries q)) r ⌝ }
+// Files an id under a key, with a release.
+pub fn insert(q: Queue, id: u32, key: u32, release: u32) -> Changed
+    ensures { λ r. ⌜ IsChange (insert-refusals q id key release) q (put (triple key release id) (entries q)) r ⌝ }
 {
-    let answer = insert_refusal(q, id, key);
+    let answer = insert_refusal(q, id, key, release);
     if answer != 0 {
         return Changed { answer, queue: q };
     }
-    let queue = insert_sound(q, id, key);
+    let queue = insert_sound(q, id, key, release);
     Changed { answer: 0, queue }
 }
 
@@ -129,7 +137,7 @@ pub fn delete(q: Queue, id: u32) -> Changed
     Changed { answer: 0, queue }
 }
 
-// The sum of key and amount is taken in 64 bits: it may pass 32.
+// The sum of key and amount is taken in 64 bits: it may pass 32. A release stays as far below its key as it was.
 fn move_refusal(q: Queue, id: u32, amount: u32) -> u32
     ensures { λ r. ⌜ r ≡ answer-of (move-refusals q id amount) ⌝ }
 {
@@ -150,7 +158,7 @@ fn move_refusal(q: Queue, id: u32, amount: u32) -> u32
     0
 }
 
-// Adds an amount to the key of an id.
+// Adds an amount to the key and the release of an id.
 pub fn move_by(q: Queue, id: u32, amount: u32) -> Changed
     ensures { λ r. ⌜ IsChange (move-refusals q id amount) q (moved id amount (entries q)) r ⌝ }
 {
@@ -170,22 +178,24 @@ pub fn least(q: Queue) -> Found
         return Found {
             answer: 5,
             key: 0,
+            release: 0,
             id: 0,
         };
     }
     least_sound(q)
 }
 
-// The first entry after a pair of key and id, filed or not.
-pub fn next(q: Queue, key: u32, id: u32) -> Found
-    ensures { λ r. ⌜ r ≡ next-of q key id ⌝ }
+// The first entry after a key, a release and an id, filed or not.
+pub fn next(q: Queue, key: u32, release: u32, id: u32) -> Found
+    ensures { λ r. ⌜ r ≡ next-of q key release id ⌝ }
 {
     if !is_sound(q) {
         return Found {
             answer: 5,
             key: 0,
+            release: 0,
             id: 0,
         };
     }
-    next_sound(q, key, id)
+    next_sound(q, key, release, id)
 }

@@ -1,8 +1,7 @@
-// The search for the first entry after a pair of key and id.
+// The search for the first entry after a point in the order: a key, a release and an id, filed or not.
 ghost use mathlib.Core.Path.{_≡_};
 ghost use Prim.Native.Nat.{_<_};
-ghost use Rattle.basics.specs.Decides.{Decides};
-ghost use Rattle.queue.specs.Order.{Before};
+ghost use Rattle.queue.specs.Order.{triple};
 ghost use Rattle.queue.specs.Layout.{bucket-after, Sound};
 ghost use Rattle.queue.specs.Calls.{least-of, next-of};
 ghost use Rattle.queue.specs.Inner.{SearchFrom, IsFirstAfter};
@@ -11,20 +10,8 @@ use super::Queue;
 use super::links::bucket_of_key;
 use super::links::node_at;
 use super::soundness::least_key;
+use basics::is_after;
 use basics::wide;
-
-// Whether the pair of key and id comes after another.
-fn is_after(key: u32, id: u32, than_key: u32, than_id: u32) -> bool
-    ensures { λ r. ⌜ Decides r (Before (record { key = «than_key»; id = «than_id» }) (record { key = key; id = id })) ⌝ }
-{
-    if than_key < key {
-        return true;
-    }
-    if key < than_key {
-        return false;
-    }
-    than_id < id
-}
 
 // The bucket after a bucket, round the circle.
 pub fn bucket_after(bucket: usize) -> usize
@@ -37,10 +24,10 @@ pub fn bucket_after(bucket: usize) -> usize
     bucket + 1
 }
 
-// Buckets from that of `from` on, each along its list; left at the first entry after the pair.
-fn search_sound(q: Queue, from: u32, key: u32, id: u32) -> usize
-    requires { ⌜ Sound q × SearchFrom q from (record { key = key; id = id }) ⌝ }
-    ensures { λ r. ⌜ IsFirstAfter q (record { key = key; id = id }) r ⌝ }
+// Buckets from that of `from` on, each along its list; left at the first entry after the point.
+fn search_sound(q: Queue, from: u32, key: u32, release: u32, id: u32) -> usize
+    requires { ⌜ Sound q × SearchFrom q from (triple key release id) ⌝ }
+    ensures { λ r. ⌜ IsFirstAfter q (triple key release id) r ⌝ }
 {
     let mut found: usize = 64;
     let mut bucket = bucket_of_key(from);
@@ -49,8 +36,9 @@ fn search_sound(q: Queue, from: u32, key: u32, id: u32) -> usize
         let mut n = node_at(&q.next, 64 + bucket);
         while n < 64 {
             let there_key = q.keys[n];
+            let there_release = q.releases[n];
             let there_id = q.ids[n];
-            if is_after(there_key, wide(there_id), key, id) {
+            if is_after(there_key, there_release, wide(there_id), key, release, id) {
                 found = n;
                 break 'search;
             }
@@ -62,44 +50,47 @@ fn search_sound(q: Queue, from: u32, key: u32, id: u32) -> usize
     found
 }
 
-// The search starts at the greater of the given key and the least one: buckets before that could hold only keys that come later.
-pub fn first_after_sound(q: Queue, key: u32, id: u32) -> usize
+// The search starts at the greater of the triple and the key least one: buckets before that could hold only keys that come later.
+pub fn first_after_sound(q: Queue, key: u32, release: u32, id: u32) -> usize
     requires { ⌜ Sound q ⌝ }
-    ensures { λ r. ⌜ IsFirstAfter q (record { key = key; id = id }) r ⌝ }
+    ensures { λ r. ⌜ IsFirstAfter q (triple key release id) r ⌝ }
 {
     let least = least_key(&q.ids, &q.keys);
     if least < key {
-        return search_sound(q, key, key, id);
+        return search_sound(q, key, key, release, id);
     }
-    search_sound(q, least, key, id)
+    search_sound(q, least, key, release, id)
 }
 
-// The first entry after a pair, or 25 with key 0 and id 0.
-pub fn next_sound(q: Queue, key: u32, id: u32) -> Found
+// The first entry after a point, or 25 with zeros.
+pub fn next_sound(q: Queue, key: u32, release: u32, id: u32) -> Found
     requires { ⌜ Sound q ⌝ }
-    ensures { λ r. ⌜ r ≡ next-of q key id ⌝ }
+    ensures { λ r. ⌜ r ≡ next-of q key release id ⌝ }
 {
-    let x = first_after_sound(q, key, id);
+    let x = first_after_sound(q, key, release, id);
     if x == 64 {
         return Found {
             answer: 25,
             key: 0,
+            release: 0,
             id: 0,
         };
     }
     let there_key = q.keys[x];
+    let there_release = q.releases[x];
     let there_id = q.ids[x];
     Found {
         answer: 0,
         key: there_key,
+        release: there_release,
         id: wide(there_id),
     }
 }
 
-// Ids are 1 or more, so every entry comes after key 0 and id 0.
+// Ids are 1 or more, so every entry comes after zeros.
 pub fn least_sound(q: Queue) -> Found
     requires { ⌜ Sound q ⌝ }
     ensures { λ r. ⌜ r ≡ least-of q ⌝ }
 {
-    next_sound(q, 0, 0)
+    next_sound(q, 0, 0, 0)
 }

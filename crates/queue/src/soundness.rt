@@ -2,13 +2,16 @@
 use crate::Queue;
 use crate::links::bucket_of_key;
 use crate::links::node_at;
+use basics::is_after;
+use basics::wide;
 ghost use mathlib.Core.Path.{_≡_};
 ghost use Prim.Native.Nat.{_≤_, _<_};
 ghost use Rattle.basics.specs.Decides.{Decides};
-ghost use Rattle.queue.specs.Layout.{IsNode, bucket-of, low, high, Linked, AllLinked, Sound};
-ghost use Rattle.queue.specs.Layout.LinkFacts.{LinkedBetween};
+ghost use Rattle.queue.specs.Order.{Before};
+ghost use Rattle.queue.specs.Entries.{row-of};
+ghost use Rattle.queue.specs.Layout.{IsNode, bucket-of, AllLinked, Sound};
 ghost use Rattle.queue.specs.Layout.NewIds.{IsSame};
-ghost use Rattle.queue.specs.Layout.SoundnessFacts.{at, Below, KeyWithin, KeysWithin, New, IsLesser, IsLeast, ShortSpan, PlacesSound, NextRight, PrevRight, Alone};
+ghost use Rattle.queue.specs.Layout.SoundnessFacts.{at, Below, Between, KeyWithin, AllWithin, KeysWithin, New, IsLesser, IsLeast, ShortSpan, PlacesSound, NextRight, PrevRight, EntryNext, PlaceRight, HeadRight};
 
 // The largest key that may be filed.
 pub const KEY_LIMIT: u32 = 2_000_000_000;
@@ -32,25 +35,7 @@ fn bucket(keys: &[u32; 64], x: usize) -> usize
     x - 64
 }
 
-fn low_end(ids: &[u16; 64], x: usize) -> u16
-    ensures { λ r. ⌜ r ≡ low (at (now (ids .entry))) x ⌝ }
-{
-    if x < 64 {
-        return ids[x];
-    }
-    0
-}
-
-fn high_end(ids: &[u16; 64], x: usize) -> u16
-    ensures { λ r. ⌜ r ≡ high (at (now (ids .entry))) x ⌝ }
-{
-    if x < 64 {
-        return ids[x];
-    }
-    32768
-}
-
-// Whether n can follow x; it must be seen to be a node before its link back is read.
+// Whether n can follow x, but for the order; it must be seen to be a node before its link back is read.
 fn next_is_right<'a>(
     ids: &'a [u16; 64],
     keys: &'a [u32; 64],
@@ -69,10 +54,7 @@ fn next_is_right<'a>(
         return false;
     }
     let back = node_at(prev, n);
-    if back != x {
-        return false;
-    }
-    low_end(ids, x) < high_end(ids, n)
+    back == x
 }
 
 // Whether p can stand before x.
@@ -86,37 +68,81 @@ fn prev_is_right<'a>(ids: &'a [u16; 64], next: &'a [u16; 544], x: usize, p: usiz
     on == x
 }
 
-// The head of an empty bucket, which most nodes are.
-fn is_alone(x: usize, n: usize, p: usize) -> bool
-    ensures { λ r. ⌜ Decides r (Alone x n p) ⌝ }
+// Whether the entry at place n comes after the one at place x.
+fn comes_later<'a>(
+    ids: &'a [u16; 64],
+    keys: &'a [u32; 64],
+    releases: &'a [u32; 64],
+    x: usize,
+    n: usize,
+) -> bool
+    requires { ⌜ (x < 64) × (n < 64) ⌝ }
+    ensures { λ r. ⌜ Decides r (Before (row-of (now (ids .entry)) (now (keys .entry)) (now (releases .entry)) x) (row-of (now (ids .entry)) (now (keys .entry)) (now (releases .entry)) n)) ⌝ }
 {
-    if x < 64 {
-        return false;
-    }
-    if n != x {
-        return false;
-    }
-    p == x
+    let there = wide(ids[n]);
+    let here = wide(ids[x]);
+    is_after(keys[n], releases[n], there, keys[x], releases[x], here)
 }
 
-// Whether node x, if it is one, has its two links right.
-fn node_is_right<'a>(
+// Whether n can follow the entry at place x.
+fn next_of_place_is_right<'a>(
+    ids: &'a [u16; 64],
+    keys: &'a [u32; 64],
+    releases: &'a [u32; 64],
+    prev: &'a [u16; 544],
+    x: usize,
+    n: usize,
+) -> bool
+    requires { ⌜ x < 64 ⌝ }
+    ensures { λ r. ⌜ Decides r (EntryNext (row-of (now (ids .entry)) (now (keys .entry)) (now (releases .entry))) (at (now (prev .entry))) x n) ⌝ }
+{
+    if !next_is_right(ids, keys, prev, x, n) {
+        return false;
+    }
+    if n < 64 {
+        return comes_later(ids, keys, releases, x, n);
+    }
+    true
+}
+
+// Whether place x, if it holds an entry, has its two links right.
+fn place_is_right<'a>(
+    ids: &'a [u16; 64],
+    keys: &'a [u32; 64],
+    releases: &'a [u32; 64],
+    next: &'a [u16; 544],
+    prev: &'a [u16; 544],
+    x: usize,
+) -> bool
+    requires { ⌜ x < 64 ⌝ }
+    ensures { λ r. ⌜ Decides r (PlaceRight (row-of (now (ids .entry)) (now (keys .entry)) (now (releases .entry))) (at (now (next .entry))) (at (now (prev .entry))) x) ⌝ }
+{
+    if ids[x] < 1 {
+        return true;
+    }
+    let n = node_at(next, x);
+    let p = node_at(prev, x);
+    if !next_of_place_is_right(ids, keys, releases, prev, x, n) {
+        return false;
+    }
+    prev_is_right(ids, next, x, p)
+}
+
+// Whether head x has its two links right. Most heads are those of empty buckets.
+fn head_is_right<'a>(
     ids: &'a [u16; 64],
     keys: &'a [u32; 64],
     next: &'a [u16; 544],
     prev: &'a [u16; 544],
     x: usize,
 ) -> bool
-    requires { ⌜ x < 544 ⌝ }
-    ensures { λ r. ⌜ Decides r (IsNode (at (now (ids .entry))) x → Linked (at (now (ids .entry))) (at (now (keys .entry))) (at (now (next .entry))) (at (now (prev .entry))) x) ⌝ }
+    requires { ⌜ (64 ≤ x) × (x < 544) ⌝ }
+    ensures { λ r. ⌜ Decides r (HeadRight (at (now (ids .entry))) (at (now (keys .entry))) (at (now (next .entry))) (at (now (prev .entry))) x) ⌝ }
 {
-    if !is_node(ids, x) {
-        return true;
-    }
     let n = node_at(next, x);
     let p = node_at(prev, x);
-    if is_alone(x, n, p) {
-        return true;
+    if n == x {
+        return p == x;
     }
     if !next_is_right(ids, keys, prev, x, n) {
         return false;
@@ -124,21 +150,18 @@ fn node_is_right<'a>(
     prev_is_right(ids, next, x, p)
 }
 
-// Whether each node from one to before another has its links right.
-fn linked_between<'a>(
+fn places_are_linked<'a>(
     ids: &'a [u16; 64],
     keys: &'a [u32; 64],
+    releases: &'a [u32; 64],
     next: &'a [u16; 544],
     prev: &'a [u16; 544],
-    from: usize,
-    to: usize,
 ) -> bool
-    requires { ⌜ to ≤ 544 ⌝ }
-    ensures { λ r. ⌜ Decides r (LinkedBetween (at (now (ids .entry))) (at (now (keys .entry))) (at (now (next .entry))) (at (now (prev .entry))) from to) ⌝ }
+    ensures { λ r. ⌜ Decides r (Between 0 64 (PlaceRight (row-of (now (ids .entry)) (now (keys .entry)) (now (releases .entry))) (at (now (next .entry))) (at (now (prev .entry))))) ⌝ }
 {
-    let mut x = from;
-    while x < to {
-        if !node_is_right(ids, keys, next, prev, x) {
+    let mut x: usize = 0;
+    while x < 64 {
+        if !place_is_right(ids, keys, releases, next, prev, x) {
             return false;
         }
         x += 1;
@@ -146,19 +169,38 @@ fn linked_between<'a>(
     true
 }
 
-// Places first, then heads: in a loop over heads alone the compiler drops the tests for places.
-pub fn all_linked<'a>(
+fn heads_are_linked<'a>(
     ids: &'a [u16; 64],
     keys: &'a [u32; 64],
     next: &'a [u16; 544],
     prev: &'a [u16; 544],
 ) -> bool
-    ensures { λ r. ⌜ Decides r (AllLinked (at (now (ids .entry))) (at (now (keys .entry))) (at (now (next .entry))) (at (now (prev .entry)))) ⌝ }
+    ensures { λ r. ⌜ Decides r (Between 64 544 (HeadRight (at (now (ids .entry))) (at (now (keys .entry))) (at (now (next .entry))) (at (now (prev .entry))))) ⌝ }
 {
-    if !linked_between(ids, keys, next, prev, 0, 64) {
+    let mut x: usize = 64;
+    while x < 544 {
+        if !head_is_right(ids, keys, next, prev, x) {
+            return false;
+        }
+        x += 1;
+    }
+    true
+}
+
+// Places and heads are tested apart: what a head needs no test for is left out of the longer loop.
+pub fn all_linked<'a>(
+    ids: &'a [u16; 64],
+    keys: &'a [u32; 64],
+    releases: &'a [u32; 64],
+    next: &'a [u16; 544],
+    prev: &'a [u16; 544],
+) -> bool
+    ensures { λ r. ⌜ Decides r (AllLinked (row-of (now (ids .entry)) (now (keys .entry)) (now (releases .entry))) (at (now (next .entry))) (at (now (prev .entry)))) ⌝ }
+{
+    if !places_are_linked(ids, keys, releases, next, prev) {
         return false;
     }
-    linked_between(ids, keys, next, prev, 64, 544)
+    heads_are_linked(ids, keys, next, prev)
 }
 
 fn ids_in_range(ids: &[u16; 64]) -> bool
@@ -225,17 +267,25 @@ fn key_is_within(id: u16, key: u32, top: u32) -> bool
     key <= top
 }
 
-fn keys_are_within<'a>(ids: &'a [u16; 64], keys: &'a [u32; 64], top: u32) -> bool
-    ensures { λ r. ⌜ Decides r (KeysWithin (at (now (ids .entry))) (at (now (keys .entry))) top) ⌝ }
+// Whether no place that holds an entry has a number above its bound.
+fn all_within<'a>(ids: &'a [u16; 64], values: &'a [u32; 64], tops: &'a [u32; 64]) -> bool
+    ensures { λ r. ⌜ Decides r (AllWithin (at (now (ids .entry))) (at (now (values .entry))) (at (now (tops .entry)))) ⌝ }
 {
     let mut i: usize = 0;
     while i < 64 {
-        if !key_is_within(ids[i], keys[i], top) {
+        if !key_is_within(ids[i], values[i], tops[i]) {
             return false;
         }
         i += 1;
     }
     true
+}
+
+fn keys_are_within<'a>(ids: &'a [u16; 64], keys: &'a [u32; 64], top: u32) -> bool
+    ensures { λ r. ⌜ Decides r (KeysWithin (at (now (ids .entry))) (at (now (keys .entry))) top) ⌝ }
+{
+    let tops = [top; 64];
+    all_within(ids, keys, &tops)
 }
 
 fn lesser(id: u16, key: u32, m: u32) -> u32
@@ -272,8 +322,8 @@ fn span_is_short<'a>(ids: &'a [u16; 64], keys: &'a [u32; 64]) -> bool
     keys_are_within(ids, keys, least + 479)
 }
 
-fn places_are_sound<'a>(ids: &'a [u16; 64], keys: &'a [u32; 64]) -> bool
-    ensures { λ r. ⌜ Decides r (PlacesSound (at (now (ids .entry))) (at (now (keys .entry)))) ⌝ }
+fn places_are_sound<'a>(ids: &'a [u16; 64], keys: &'a [u32; 64], releases: &'a [u32; 64]) -> bool
+    ensures { λ r. ⌜ Decides r (PlacesSound (at (now (ids .entry))) (at (now (keys .entry))) (at (now (releases .entry)))) ⌝ }
 {
     if !ids_in_range(ids) {
         return false;
@@ -284,6 +334,9 @@ fn places_are_sound<'a>(ids: &'a [u16; 64], keys: &'a [u32; 64]) -> bool
     if !keys_are_within(ids, keys, KEY_LIMIT) {
         return false;
     }
+    if !all_within(ids, releases, keys) {
+        return false;
+    }
     span_is_short(ids, keys)
 }
 
@@ -291,8 +344,8 @@ fn places_are_sound<'a>(ids: &'a [u16; 64], keys: &'a [u32; 64]) -> bool
 pub fn is_sound(q: Queue) -> bool
     ensures { λ r. ⌜ Decides r (Sound q) ⌝ }
 {
-    if !places_are_sound(&q.ids, &q.keys) {
+    if !places_are_sound(&q.ids, &q.keys, &q.releases) {
         return false;
     }
-    all_linked(&q.ids, &q.keys, &q.next, &q.prev)
+    all_linked(&q.ids, &q.keys, &q.releases, &q.next, &q.prev)
 }

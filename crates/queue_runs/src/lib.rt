@@ -17,13 +17,13 @@ fn first_key(id: u32) -> u32 {
     1000 + (id % 32) * 13
 }
 
-// The ids 1 to n.
+// The ids 1 to n. In 28 of the 32 buckets the larger id is released earlier, and so stands first.
 fn filled(n: u32) -> Queue {
     let mut q = empty();
     let mut i: u32 = 0;
     while i < n {
         let id = i % 64 + 1;
-        let c = insert(q, id, first_key(id));
+        let c = insert(q, id, first_key(id), id % 37);
         let after = c.queue;
         q = after;
         i += 1;
@@ -42,13 +42,15 @@ fn marked(q: Queue, i: u32) -> Queue {
 fn walk_sum(q: Queue, turns: u32) -> u32 {
     let mut sum: u32 = 0;
     let mut key: u32 = 0;
+    let mut release: u32 = 0;
     let mut id: u32 = 0;
     let mut i: u32 = 0;
     while i < turns {
-        let f = next(q, key, id);
+        let f = next(q, key, release, id);
         key = f.key;
+        release = f.release;
         id = f.id;
-        sum = mix(mix(sum, key), id);
+        sum = mix(mix(mix(sum, key), release), id);
         i += 1;
     }
     sum
@@ -75,7 +77,7 @@ pub extern "C" fn run_insert_delete(turns: u32) -> u32 {
     let mut sum: u32 = 0;
     let mut i: u32 = 0;
     while i < turns {
-        let c = insert(q, 64, 1000 + i % 400);
+        let c = insert(q, 64, 1000 + i % 400, i % 37);
         let with_it = c.queue;
         let d = delete(with_it, 64);
         let without_it = d.queue;

@@ -1,4 +1,4 @@
--- The worked examples of document 01, computed by the checker: the three rounds, and the tables on the edge.
+-- The worked examples of document 01, computed by the checker: the three rounds, and the tables on the edge; and ties of document 02 (ii).
 use mathlib.Core.Path.{_≡_, refl}
 use mathlib.Core.Bool.{So}
 use mathlib.Core.Logic.{Dec·and}
@@ -92,6 +92,34 @@ third-breaks-start rule = lt-irrefl 1 (rule 11 (omega arith))
 pub third-fits-later : IsReady 1 10 (one-sent ++ (stream 3 11 10 1 ∷ []))
 unfolding one-sent is-ready
 third-fits-later = tested-ready 1 10 3 (one-sent ++ (stream 3 11 10 1 ∷ [])) refl
+
+-- 02 (ii): streams that are all due at 9, the larger ids released earlier.
+unfoldable pub due-together : State
+unfolding opened
+due-together = opened 0 20 (stream 1 5 12 4 ∷ stream 2 3 12 6 ∷ stream 3 1 12 8 ∷ [])
+
+-- They go by release, and by id alone would go 1, 2, 3.
+pub by-release : map (line 1 20 3 due-together) (0 ∷ 1 ∷ 2 ∷ []) ≡ record { start = 6; numbers = 3 ∷ [] } ∷ record { start = 7; numbers = 2 ∷ [] } ∷ record { start = 8; numbers = 1 ∷ [] } ∷ []
+unfolding due-together line
+by-release = refl
+
+pub by-release-lazy : IsLazyRun 1 20 due-together (lazy-starts 1 20 3 due-together)
+unfolding due-together is-ready
+by-release-lazy = lazy-from 1 20 3 due-together (omega arith) (omega arith) refl (omega arith)
+
+-- In one round they are listed so too: with two slots 3 and 2, then 1.
+pub listed-by-release : map (line 2 20 2 due-together) (0 ∷ 1 ∷ []) ≡ record { start = 7; numbers = 3 ∷ 2 ∷ [] } ∷ record { start = 8; numbers = 1 ∷ [] } ∷ []
+unfolding due-together line
+listed-by-release = refl
+
+-- Three that differ in the id alone go by smaller id, whatever their places in the table.
+unfoldable pub three-alike : State
+unfolding opened
+three-alike = opened 0 20 (stream 9 1 12 8 ∷ stream 4 1 12 8 ∷ stream 7 1 12 8 ∷ [])
+
+pub by-number : map (line 1 20 3 three-alike) (0 ∷ 1 ∷ 2 ∷ []) ≡ record { start = 6; numbers = 4 ∷ [] } ∷ record { start = 7; numbers = 7 ∷ [] } ∷ record { start = 8; numbers = 9 ∷ [] } ∷ []
+unfolding three-alike line
+by-number = refl
 
 -- 01: "B=1, F=240, G=20, T=0, one (1,240,240): rounds at 20 with it, then 40 with no slot."
 unfoldable pub long-period : State

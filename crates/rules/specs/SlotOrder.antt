@@ -1,45 +1,54 @@
 -- The slots of a round stand in order, and before every other stream whose unserved packet may ride.
-use mathlib.Core.Path.{_≡_, refl, sym, ap, subst⁻¹}
+use mathlib.Core.Path.{_≡_, refl, sym, subst⁻¹}
 use mathlib.Core.Bool.{Bool, true, false, cond, _&&_, _||_, true≢false, false≢true}
 use mathlib.Core.Logic.{inl, inr, Or·elim}
-use mathlib.Core.HLevel.{hedberg, ×-prop}
 use mathlib.Core.List.{List, [], _∷_, _++_, List·Mem, Pairwise, Pairwise·nil, Pairwise·cons, pairwise-cons, pairwise-append, Pairwise·filter, Pairwise·of-map, Perm·mem-iff, not-mem-nil, mem-cons-self, mem-cons-of-mem, mem-append, eq-or-mem-of-mem-cons}
 use Prim.Native.Nat.{ℕ, _≤_, _<_}
 use native.Mathlib.Bridge.{le-prop}
-use native.Mathlib.Nat.{lt-irrefl}
-use native.Mathlib.Decide.{ℕ-discrete}
 use native.Mathlib.Omega.{arith}
-use lib.Dec.{leb, ltb, eqb}
+use lib.Dec.{ltb, eqb}
 use lib.ListN.{take, drop, take-append-drop}
 use borrow.Author.Tests.{ltb-true, ltb-false, eqb-true, eqb-false, leb-true, leb-false}
+use Rattle.basics.specs.Lexicographic.{Then, then-asym, then-trans, then-prop}
 use Rattle.rules.specs.Streams.{Stream, Packet, packet, due, IsTable}
 use Rattle.rules.specs.Slots.{may-ride, riders, ComesBefore, goes-before, put-in-order, in-order, slots}
 use Rattle.rules.specs.SlotFacts.{put-perm, in-order-perm}
 
 -- the order of packets is strict, and holds in one way only
 pub before-asym : (p q : Packet) → ComesBefore p q → ComesBefore q p → ⊥
-before-asym p q (inl a) (inl b) = omega arith
-before-asym p q (inl a) (inr b) = omega (arith, b .0)
-before-asym p q (inr a) (inl b) = omega (arith, a .0)
-before-asym p q (inr a) (inr b) = omega (arith, a .1, b .1)
+before-asym p q = then-asym (then-asym (λ l m. omega (arith, l, m)))
 
 before-trans : (p q r : Packet) → ComesBefore p q → ComesBefore q r → ComesBefore p r
-before-trans p q r (inl a) (inl b) = inl (omega arith)
-before-trans p q r (inl a) (inr b) = inl (omega (arith, b .0))
-before-trans p q r (inr a) (inl b) = inl (omega (arith, a .0))
-before-trans p q r (inr a) (inr b) = inr (omega (arith, a .0, b .0), omega (arith, a .1, b .1))
+before-trans p q r = then-trans (then-trans (λ l m. omega (arith, l, m)))
 
 pub before-prop : (p q : Packet) → IsProp (ComesBefore p q)
-before-prop p q (inl a) (inl b) = ap inl (le-prop a b)
-before-prop p q (inl a) (inr b) = absurd (lt-irrefl (p .due) (omega (arith, b .0)))
-before-prop p q (inr a) (inl b) = absurd (lt-irrefl (p .due) (omega (arith, a .0)))
-before-prop p q (inr a) (inr b) = ap inr (×-prop (hedberg ℕ-discrete (p .due) (q .due)) le-prop a b)
+before-prop p q = then-prop (then-prop le-prop)
+
+-- a test of a number and of the rest
+then-yes : (a b : ℕ) (rest : Bool) {R : Type 0} → (rest ≡ true → R) → (ltb a b || (eqb a b && rest)) ≡ true → Then a b R
+then-yes a b rest {R} on e = go (ltb a b) refl (eqb a b) refl e
+  where
+    go : (l : Bool) → ltb a b ≡ l → (q : Bool) → eqb a b ≡ q → (l || (q && rest)) ≡ true → Then a b R
+    go true less q same e = inl (ltb-true a b less)
+    go false less true same e = inr (eqb-true a b same, on e)
+    go false less false same e = absurd (false≢true e)
+
+then-no : (a b : ℕ) (rest : Bool) {R : Type 0} → (rest ≡ false → R) → (ltb a b || (eqb a b && rest)) ≡ false → Then b a R
+then-no a b rest {R} on e = go (ltb a b) refl (eqb a b) refl e
+  where
+    strict : (a b : ℕ) → a ≤ b → (b ≡ a → ⊥) → a < b
+    strict a b le differ = omega arith
+
+    go : (l : Bool) → ltb a b ≡ l → (q : Bool) → eqb a b ≡ q → (l || (q && rest)) ≡ false → Then b a R
+    go true less q same e = absurd (true≢false e)
+    go false less true same e = inr (sym (eqb-true a b same), on e)
+    go false less false same e = inl (strict b a (ltb-false a b less) (eqb-false a b same))
 
 -- the first unserved packet of a stream
 abbrev unserved : Stream → Packet
 unserved x = record { number = x .number; release = x .release; due = due x }
 
--- x comes before y: its unserved packet is due earlier, or due at the same time with a smaller number
+-- x comes before y: its unserved packet does
 abbrev pub Earlier : Stream → Stream → Type 0
 Earlier x y = ComesBefore (unserved x) (unserved y)
 
@@ -49,26 +58,12 @@ Differ x y = x .number ≡ y .number → ⊥
 -- the test of the order decides it between streams of different numbers
 before-yes : (x y : Stream) → Differ x y → goes-before x y ≡ true → Earlier x y
 unfolding goes-before
-before-yes x y differ e = go (ltb (due x) (due y)) refl (eqb (due x) (due y)) refl (leb (x .number) (y .number)) refl e
-  where
-    go : (l : Bool) → ltb (due x) (due y) ≡ l → (q : Bool) → eqb (due x) (due y) ≡ q → (n : Bool) → leb (x .number) (y .number) ≡ n → (l || (q && n)) ≡ true → Earlier x y
-    go true less q same n tie e = inl (ltb-true (due x) (due y) less)
-    go false less true same true tie e = inr (eqb-true (due x) (due y) same, omega (arith, leb-true (x .number) (y .number) tie))
-    go false less true same false tie e = absurd (false≢true e)
-    go false less false same n tie e = absurd (false≢true e)
+before-yes x y differ =
+    then-yes (due x) (due y) _ (then-yes (x .release) (y .release) _ (λ tie. omega (arith, leb-true (x .number) (y .number) tie)))
 
 before-no : (x y : Stream) → Differ x y → goes-before x y ≡ false → Earlier y x
 unfolding goes-before
-before-no x y differ e = go (ltb (due x) (due y)) refl (eqb (due x) (due y)) refl (leb (x .number) (y .number)) refl e
-  where
-    go : (l : Bool) → ltb (due x) (due y) ≡ l → (q : Bool) → eqb (due x) (due y) ≡ q → (n : Bool) → leb (x .number) (y .number) ≡ n → (l || (q && n)) ≡ false → Earlier y x
-    go true less q same n tie e = absurd (true≢false e)
-    go false less true same true tie e = absurd (true≢false e)
-    go false less true same false tie e = inr (sym (eqb-true (due x) (due y) same), leb-false (x .number) (y .number) tie)
-    go false less false same n tie e = inl (strict (due y) (due x) (ltb-false (due x) (due y) less) (eqb-false (due x) (due y) same))
-      where
-        strict : (a b : ℕ) → a ≤ b → (b ≡ a → ⊥) → a < b
-        strict a b le differ = omega arith
+before-no x y differ = then-no (due x) (due y) _ (then-no (x .release) (y .release) _ (λ tie. leb-false (x .number) (y .number) tie))
 
 abbrev pub InSlotOrder : List Stream → Type 0
 InSlotOrder = Pairwise Earlier

@@ -12,6 +12,7 @@ use native.Mathlib.Omega.{arith}
 use lib.ListN.{length, length-map}
 use lib.Seq.{length-take-le, take-all}
 use Rattle.basics.specs.Sorted.{sorted-unique}
+use Rattle.basics.specs.Lexicographic.{Then, then-rest}
 use Rattle.rules.specs.Streams.{Stream, Packet, packet, MayRide, IsTable}
 use Rattle.rules.specs.Demand.{DueAfter}
 use Rattle.rules.specs.Slots.{ComesBefore, IsRider, IsSlots, riders, in-order, slots}
@@ -48,6 +49,15 @@ module _ (b s : ℕ) (ss : List Stream) where
   slots-unique qs rs these those =
       sorted-unique (hedberg packet-discrete) ComesBefore before-asym qs rs (these .ordered) (those .ordered) (inside qs rs these those) (inside rs qs those these)
 
+  -- a packet that may ride and is not served waits no longer than every served packet of its due time: it was released no earlier
+  pub among-equals-longest-first : (qs : List Packet) → IsSlots b s ss qs → (served left : Packet) → List·Mem served qs → IsRider s ss left → (List·Mem left qs → ⊥)
+      → served .due ≡ left .due → served .release ≤ left .release
+  among-equals-longest-first qs is served left here rides out same = go (then-rest same (is .first served left here rides out))
+    where
+      go : {R : Type 0} → Then (served .release) (left .release) R → served .release ≤ left .release
+      go (inl less) = omega (arith, less)
+      go (inr tie) = omega (arith, tie .0)
+
 module _ (s : ℕ) (ss : List Stream) (table : IsTable ss) (later : DueAfter s ss) where
   -- packet 1 is released no earlier than packet 0 is due
   pub only-first-rides : (x : Stream) → List·Mem x ss → (k : ℕ) → MayRide (packet x k) s → k ≡ 0
@@ -69,7 +79,8 @@ module _ (s : ℕ) (ss : List Stream) (table : IsTable ss) (later : DueAfter s s
 
   as-packets : (x y : Stream) → Earlier x y → ComesBefore (packet x 0) (packet y 0)
   as-packets x y (inl a) = inl (omega arith)
-  as-packets x y (inr a) = inr (omega (arith, a .0), a .1)
+  as-packets x y (inr (a, inl b)) = inr (omega (arith, a), inl (omega arith))
+  as-packets x y (inr (a, inr b)) = inr (omega (arith, a), inr (omega (arith, b .0), b .1))
 
   -- and the slots are the first b of them
   pub slots-are-first : (b : ℕ) → IsSlots b s ss (map (λ (x : Stream). packet x 0) (slots b s ss))

@@ -1,24 +1,25 @@
 -- The slots of a round, and the table after it.
 use mathlib.Core.Path.{_≡_}
 use mathlib.Core.Bool.{Bool, cond, _&&_, _||_}
-use mathlib.Core.Logic.{_⊎_, ite, Dec·and}
+use mathlib.Core.Logic.{ite, Dec·and}
 use mathlib.Core.List.{List, [], _∷_, List·Mem, Pairwise, map, filter, decMem}
 use Prim.Native.Nat.{ℕ, _+_, _≤_, _<_}
 use native.Mathlib.Decide.{decLe, ℕ-discrete}
 use lib.Dec.{leb, ltb, eqb}
 use lib.ListN.{length, take}
+use Rattle.basics.specs.Lexicographic.{Then}
 use Rattle.rules.specs.Streams.{Stream, Packet, packet, due, MayRide, PacketOf}
 
--- 01: "by due time, then id": p comes before q.
+-- 02 (ii): "Packets due at the same time now go by earlier release, then by smaller id": p comes before q.
 abbrev pub ComesBefore : Packet → Packet → Type 0
-ComesBefore p q = (p .due < q .due) ⊎ ((p .due ≡ q .due) × (p .number < q .number))
+ComesBefore p q = Then (p .due) (q .due) (Then (p .release) (q .release) (p .number < q .number))
 
 -- q is one "of the packets that may ride" in a round at s: whichever packet of its stream it is, from the unserved one on.
 abbrev pub IsRider : ℕ → List Stream → Packet → Type 0
 IsRider s ss q = PacketOf ss q × MayRide q s
 
--- 01: "Slots: of the packets that may ride, the first B by due time, then id, written in that order": they come before each one that is left
--- out, and one is left out only where there are b of them. There is only one such list; in a table whose unserved packets are all due after s
+-- 01: "Slots: of the packets that may ride, the first B .., written in that order", which is that of 02 (ii): they come before each one that
+-- is left out, and one is left out only where there are b of them. There is only one such list; in a table whose unserved packets are all due after s
 -- it has the unserved packets of the streams that `slots` below computes.
 pub record IsSlots (b s : ℕ) (ss : List Stream) (qs : List Packet) : Type 0 where
   pub ride : (q : Packet) → List·Mem q qs → IsRider s ss q
@@ -35,9 +36,9 @@ may-ride q s = Dec·and (decLe (q .release) s) (decLe (s + 1) (q .due))
 unfoldable pub riders : ℕ → List Stream → List Stream
 riders s ss = filter (λ (x : Stream). may-ride (packet x 0) s) ss
 
--- Whether the unserved packet of x goes before that of y, by due time, then number.
+-- Whether the unserved packet of x goes before that of y, by due time, then release, then number.
 unfoldable pub goes-before : Stream → Stream → Bool
-goes-before x y = ltb (due x) (due y) || (eqb (due x) (due y) && leb (x .number) (y .number))
+goes-before x y = ltb (due x) (due y) || (eqb (due x) (due y) && (ltb (x .release) (y .release) || (eqb (x .release) (y .release) && leb (x .number) (y .number))))
 
 -- x put into its place in a list that is in that order.
 unfoldable pub put-in-order : Stream → List Stream → List Stream

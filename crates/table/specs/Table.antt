@@ -7,7 +7,7 @@ use Rattle.rules.specs.Streams.{Stream, due}
 use Rattle.table.specs.declared.Stream
 use Rattle.table.specs.declared.Table.{Table}
 use Rattle.table.specs.declared.Column.{Column}
-use Rattle.table.specs.declared.Column.the-variants.{Period, Deadline, Due}
+use Rattle.table.specs.declared.Column.the-variants.{Period, Deadline, Due, Release}
 
 -- A stream of the table as the rules see it: its number is its id.
 abbrev pub stream-of : Rattle.table.specs.declared.Stream.Stream → Stream
@@ -30,6 +30,7 @@ abbrev pub value-of : Column → Stream → ℕ
 value-of Period s = s .period
 value-of Deadline s = s .deadline
 value-of Due s = due s
+value-of Release s = s .release
 
 -- What reading a column relies on.
 pub record CanRead (column : Column) (table : Table) : Type 0 where

@@ -39,6 +39,7 @@ pub enum Column {
     Period,
     Deadline,
     Due,
+    Release,
 }
 
 // The value of a column of one stream.
@@ -50,6 +51,7 @@ fn value_in_range(stream: Stream, column: Column) -> u32
         Column::Period => stream.period,
         Column::Deadline => stream.deadline,
         Column::Due => stream.release + stream.deadline,
+        Column::Release => stream.release,
     }
 }
 

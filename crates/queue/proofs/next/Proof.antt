@@ -13,7 +13,7 @@ is-sound-requires : tie.Need-is-sound-requires
 is-sound-requires c κs = search needs
 
 returns : tie.Need-returns
-returns c = sym (unsound-find (decide-sound (c .before .before .args .q)) (after (record { key = c .before .before .args .key; id = c .before .before .args .id }) (entries (c .before .before .args .q))) (failed (c .before .is-sound .ensures) (c .if1 .taken)))
+returns c = sym (unsound-find (decide-sound (c .before .before .args .q)) (after (record { key = c .before .before .args .key; release = c .before .before .args .release; id = c .before .before .args .id }) (entries (c .before .before .args .q))) (failed (c .before .is-sound .ensures) (c .if1 .taken)))
 
 next-sound-requires : tie.Need-next-sound-requires
 next-sound-requires c κs = passed (c .before .is-sound .ensures) (c .if1 .left)

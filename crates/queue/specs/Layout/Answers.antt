@@ -10,15 +10,15 @@ use native.Mathlib.Decide.{ℕ-discrete}
 use native.Mathlib.Omega.{arith}
 use lib.ListN.{length}
 use Rattle.queue.specs.Order.{Entry}
-use Rattle.queue.specs.Entries.{put, without, key-of, Filed, InBounds}
+use Rattle.queue.specs.Entries.{put, without, filed-as, moved-on, Filed, InBounds}
 use Rattle.queue.specs.Layout.{id-at, key-at, entry-at, Holds, entries, Sound}
-use Rattle.queue.specs.Calls.{inserted, moved}
+use Rattle.queue.specs.Calls.{moved}
 use Rattle.queue.specs.Layout.Collected.{of-collected, in-collected, collected-room, collected-full}
 use Rattle.queue.specs.EntryFacts.{in-put, put-new, put-old}
 use Rattle.queue.specs.Layout.SoundFacts.{sound-in-bounds, fewer-in-bounds, in-without}
 use Rattle.queue.specs.Inner.{IsPlaceOf, KeyFits}
 use Rattle.queue.specs.declared.Queue.{Queue}
-use Rattle.queue.specs.Layout.Change.{place-filed, filed-place, key-of-place}
+use Rattle.queue.specs.Layout.Change.{place-filed, filed-place, filed-as-place}
 
 positive : (n : ℕ) → (n ≡ 0 → ⊥) → 1 ≤ n
 positive n other = omega arith
@@ -26,13 +26,13 @@ positive n other = omega arith
 -- 21: no place is free
 pub full-if : (q : Queue) (x : ℕ) → IsPlaceOf (q .ids) 0 x → x ≡ 64 → 64 ≤ length (entries q)
 unfolding entries
-full-if q x place none = omega (arith, collected-full (id-at q) (key-at q) 64 (λ i below. positive (id-at q i) (place .absent none i below)))
+full-if q x place none = omega (arith, collected-full (entry-at q) 64 (λ i below. positive (id-at q i) (place .absent none i below)))
 
 pub room-if : (q : Queue) (x : ℕ) → IsPlaceOf (q .ids) 0 x → (x ≡ 64 → ⊥) → length (entries q) < 64
 unfolding entries
 room-if q x place some =
     let inside : x < 64 = omega (arith, place .within) in
-    collected-room (id-at q) (key-at q) 64 x inside (place .found inside)
+    collected-room (entry-at q) 64 x inside (place .found inside)
 
 -- 22 and 24: a place has the id
 pub filed-if : (q : Queue) (id x : ℕ) → 1 ≤ id → IsPlaceOf (q .ids) id x → (x ≡ 64 → ⊥) → Filed id (entries q)
@@ -45,30 +45,26 @@ pub not-filed-if : (q : Queue) (id x : ℕ) → IsPlaceOf (q .ids) id x → x �
 not-filed-if q id x place none filed = lt-irrefl 64 (omega (arith, filed-place q id x filed place .0 .0))
 
 -- 23: the bounds of the entries with one more are those of its key beside the others
-module _ (q : Queue) (out key id : ℕ) (es : List Entry) (bounds : InBounds es)
+module _ (q : Queue) (out : ℕ) (new : Entry) (es : List Entry) (bounds : InBounds es)
     (inside : (e : Entry) → List·Mem e es → ∥ ((i : ℕ) × (i < 64) × (i ≡ out → ⊥) × (1 ≤ id-at q i) × (e ≡ entry-at q i)) ∥₁)
     (all : (i : ℕ) → i < 64 → (i ≡ out → ⊥) → 1 ≤ id-at q i → List·Mem (entry-at q i) es) where
-  new : Entry
-  new = record { key = key; id = id }
-
-  beside : KeyFits (q .ids) (q .keys) out key → (e : Entry) → List·Mem e es → (key ≤ e .key + 479) × (e .key ≤ key + 479)
+  beside : KeyFits (q .ids) (q .keys) out (new .key) → (e : Entry) → List·Mem e es → (new .key ≤ e .key + 479) × (e .key ≤ new .key + 479)
   beside fits e m =
       ∥∥₁-elim (inside e m) (×-prop le-prop le-prop)
-      (λ w. subst⁻¹ (λ (f : Entry). (key ≤ f .key + 479) × (f .key ≤ key + 479)) (w .4) (fits .1 (w .0) (w .1) (w .2) (w .3)))
+      (λ w. subst⁻¹ (λ (f : Entry). (new .key ≤ f .key + 479) × (f .key ≤ new .key + 479)) (w .4) (fits .1 (w .0) (w .1) (w .2) (w .3)))
 
-  pub fits-in-bounds : KeyFits (q .ids) (q .keys) out key → InBounds (put (record { key = key; id = id }) es)
-  unfolding new
-  fits-in-bounds fits =
+  pub fits-in-bounds : new .release ≤ new .key → KeyFits (q .ids) (q .keys) out (new .key) → InBounds (put new es)
+  fits-in-bounds before fits =
       record {
         keys = λ e m. Or·elim le-prop (in-put new es e m) (λ same. rw same (fits .0)) (bounds .keys e);
+        released = λ e m. Or·elim le-prop (in-put new es e m) (λ same. rw same before) (bounds .released e);
         span = λ d e md me.
             Or·elim le-prop (in-put new es d md)
             (λ d-new. Or·elim le-prop (in-put new es e me) (λ e-new. rw (d-new, e-new) (omega arith)) (λ e-old. rw d-new (beside fits e e-old .0)))
             (λ d-old. Or·elim le-prop (in-put new es e me) (λ e-new. rw e-new (beside fits d d-old .1)) (λ e-old. bounds .span d e d-old e-old));
       }
 
-  pub in-bounds-fits : InBounds (put (record { key = key; id = id }) es) → KeyFits (q .ids) (q .keys) out key
-  unfolding new
+  pub in-bounds-fits : InBounds (put new es) → KeyFits (q .ids) (q .keys) out (new .key)
   in-bounds-fits within = (
     within .keys new (put-new new es),
     λ i below other some.
@@ -79,17 +75,20 @@ module _ (q : Queue) (out key id : ℕ) (es : List Entry) (bounds : InBounds es)
 module _ (q : Queue) (sound : Sound q) where
   of-entries : (e : Entry) → List·Mem e (entries q) → ∥ ((i : ℕ) × (i < 64) × (i ≡ 64 → ⊥) × (1 ≤ id-at q i) × (e ≡ entry-at q i)) ∥₁
   unfolding entries
-  of-entries e m = ∥∥₁-map (of-collected (id-at q) (key-at q) 64 e m) (λ w. (w .0, w .1, (λ same. lt-irrefl 64 (omega (arith, w .1))), w .2, w .3))
+  of-entries e m = ∥∥₁-map (of-collected (entry-at q) 64 e m) (λ w. (w .0, w .1, (λ same. lt-irrefl 64 (omega (arith, w .1))), w .2, w .3))
 
   all-entries : (i : ℕ) → i < 64 → 1 ≤ id-at q i → List·Mem (entry-at q i) (entries q)
   unfolding entries
-  all-entries i below some = in-collected (id-at q) (key-at q) 64 i below some
+  all-entries i below some = in-collected (entry-at q) 64 i below some
 
-  pub insert-bounds : (id key : ℕ) → KeyFits (q .ids) (q .keys) 64 key → InBounds (inserted id key (entries q))
-  insert-bounds id key = fits-in-bounds q 64 key id (entries q) (sound-in-bounds q sound) of-entries (λ i below _. all-entries i below)
+  pub insert-bounds : (e : Entry) → e .release ≤ e .key → KeyFits (q .ids) (q .keys) 64 (e .key) → InBounds (put e (entries q))
+  insert-bounds e = fits-in-bounds q 64 e (entries q) (sound-in-bounds q sound) of-entries (λ i below _. all-entries i below)
 
-  pub insert-fits : (id key : ℕ) → InBounds (inserted id key (entries q)) → KeyFits (q .ids) (q .keys) 64 key
-  insert-fits id key = in-bounds-fits q 64 key id (entries q) (sound-in-bounds q sound) of-entries (λ i below _. all-entries i below)
+  pub insert-fits : (e : Entry) → InBounds (put e (entries q)) → KeyFits (q .ids) (q .keys) 64 (e .key)
+  insert-fits e = in-bounds-fits q 64 e (entries q) (sound-in-bounds q sound) of-entries (λ i below _. all-entries i below)
+
+  pub insert-released : (e : Entry) → InBounds (put e (entries q)) → e .release ≤ e .key
+  insert-released e bounds = bounds .released e (put-new e (entries q))
 
   module _ (id x : ℕ) (holds : Holds q x) (has : id-at q x ≡ id) where
     of-rest : (e : Entry) → List·Mem e (without id (entries q)) → ∥ ((i : ℕ) × (i < 64) × (i ≡ x → ⊥) × (1 ≤ id-at q i) × (e ≡ entry-at q i)) ∥₁
@@ -107,30 +106,30 @@ module _ (q : Queue) (sound : Sound q) where
     rest-bounds : InBounds (without id (entries q))
     rest-bounds = fewer-in-bounds (entries q) (without id (entries q)) (in-without id (entries q)) (sound-in-bounds q sound)
 
-    pub move-bounds : (key : ℕ) → KeyFits (q .ids) (q .keys) x key → InBounds (put (record { key = key; id = id }) (without id (entries q)))
-    move-bounds key = fits-in-bounds q x key id (without id (entries q)) rest-bounds of-rest all-rest
+    pub move-bounds : (e : Entry) → e .release ≤ e .key → KeyFits (q .ids) (q .keys) x (e .key) → InBounds (put e (without id (entries q)))
+    move-bounds e = fits-in-bounds q x e (without id (entries q)) rest-bounds of-rest all-rest
 
-    pub move-key-fits : (key : ℕ) → InBounds (put (record { key = key; id = id }) (without id (entries q))) → KeyFits (q .ids) (q .keys) x key
-    move-key-fits key = in-bounds-fits q x key id (without id (entries q)) rest-bounds of-rest all-rest
+    pub move-key-fits : (e : Entry) → InBounds (put e (without id (entries q))) → KeyFits (q .ids) (q .keys) x (e .key)
+    move-key-fits e = in-bounds-fits q x e (without id (entries q)) rest-bounds of-rest all-rest
 
 -- id 0 is never filed
 pub zero-not-filed : (q : Queue) (id : ℕ) → id < 1 → Filed id (entries q) → ⊥
 unfolding entries
 zero-not-filed q id zero filed =
     ∥∥₁-elim filed ⊥-prop
-    (λ w. ∥∥₁-elim (of-collected (id-at q) (key-at q) 64 (w .0) (w .1)) ⊥-prop (λ v. lt-irrefl 0 (omega (arith, v .2, ap (λ (e : Entry). e .id) (v .3), w .2))))
+    (λ w. ∥∥₁-elim (of-collected (entry-at q) 64 (w .0) (w .1)) ⊥-prop (λ v. lt-irrefl 0 (omega (arith, v .2, ap (λ (e : Entry). e .id) (v .3), w .2))))
 
 -- 23 of a move, on the key at the id's place
 module _ (q : Queue) (sound : Sound q) (id x amount : ℕ) (filed : Filed id (entries q)) (place : IsPlaceOf (q .ids) id x) where
-  key-there : key-of id (entries q) ≡ key-at q x
-  key-there = key-of-place q sound id x (filed-place q id x filed place .0) (filed-place q id x filed place .1)
+  filed-there : filed-as id (entries q) ≡ entry-at q x
+  filed-there = filed-as-place q sound id x (filed-place q id x filed place .0) (filed-place q id x filed place .1)
 
   pub moved-bounds : KeyFits (q .ids) (q .keys) x (key-at q x + amount) → InBounds (moved id amount (entries q))
   moved-bounds fits =
       let here = filed-place q id x filed place in
-      rw key-there (move-bounds q sound id x (here .0) (here .1) (key-at q x + amount) fits)
+      rw filed-there (move-bounds q sound id x (here .0) (here .1) (moved-on amount (entry-at q x)) (omega (arith, sound .released x (here .0))) fits)
 
   pub moved-fits : InBounds (moved id amount (entries q)) → KeyFits (q .ids) (q .keys) x (key-at q x + amount)
   moved-fits within =
       let here = filed-place q id x filed place in
-      move-key-fits q sound id x (here .0) (here .1) (key-at q x + amount) (rw key-there at within)
+      move-key-fits q sound id x (here .0) (here .1) (moved-on amount (entry-at q x)) (rw filed-there at within)

@@ -1,13 +1,14 @@
 -- The first entry of a list in order, from the place that the search finds.
 use mathlib.Core.Path.{_≡_, refl, sym, ap, subst, subst⁻¹, _∙_}
-use mathlib.Core.Logic.{inl, inr, Or·elim, ∥∥₁-elim, ∥∥₁-prop}
+use mathlib.Core.Logic.{Or·elim, ∥∥₁-elim, ∥∥₁-prop}
 use mathlib.Core.HLevel.{⊥-prop}
 use mathlib.Core.List.{List, [], _∷_, List·Mem, Pairwise·filter, pairwise-cons, mem-filter, filter-eq-self, not-mem-nil, mem-cons-self, eq-or-mem-of-mem-cons}
-use Prim.Native.Nat.{ℕ, zero, suc, _≤_, _<_}
+use Prim.Native.Nat.{ℕ, _<_}
 use native.Mathlib.Omega.{arith}
-use Rattle.queue.specs.Order.{Entry, Before, before}
+use Rattle.basics.specs.Lexicographic.{then-zero}
+use Rattle.queue.specs.Order.{Entry, Before, before, triple}
 use Rattle.queue.specs.Entries.{after}
-use Rattle.queue.specs.Layout.{id-at, key-at, entry-at, Holds, entries, Sound}
+use Rattle.queue.specs.Layout.{id-at, key-at, release-at, entry-at, Holds, entries, Sound}
 use Rattle.queue.specs.Calls.{first-of, refused-find}
 use Rattle.queue.specs.Layout.Collected.{of-collected, in-collected, collected-in-order}
 use Rattle.queue.specs.EntryFacts.{InOrder, entry-set, before-prop}
@@ -22,18 +23,18 @@ unfolding first-of
 first-none (no unsound) sound = absurd (unsound sound)
 first-none (yes s) sound = refl
 
-pub first-some : {q : Queue} (d : Dec (Sound q)) → Sound q → (e : Entry) (es : List Entry) → first-of d (e ∷ es) ≡ record { answer = 0; key = e .key; id = e .id }
+pub first-some : {q : Queue} (d : Dec (Sound q)) → Sound q → (e : Entry) (es : List Entry) → first-of d (e ∷ es) ≡ record { answer = 0; key = e .key; release = e .release; id = e .id }
 unfolding first-of
 first-some (no unsound) sound e es = absurd (unsound sound)
 first-some (yes s) sound e es = refl
 
 -- an entry of a list in order that none comes before is its first
 first-is : (es : List Entry) → InOrder es → (e : Entry) → List·Mem e es → ((a : Entry) → List·Mem a es → Before a e → ⊥) → {q : Queue} (d : Dec (Sound q)) → Sound q
-    → first-of d es ≡ record { answer = 0; key = e .key; id = e .id }
+    → first-of d es ≡ record { answer = 0; key = e .key; release = e .release; id = e .id }
 first-is [] sorted e m least d sound = absurd (not-mem-nil m)
 first-is (x ∷ xs) sorted e m least d sound =
     let same : e ≡ x = Or·elim (entry-set e x) (eq-or-mem-of-mem-cons m) (λ here. here) (λ later. absurd (least x mem-cons-self (pairwise-cons .0 sorted .0 e later))) in
-    first-some d sound x xs ∙ ap {B = Found} (λ (a : Entry). record { answer = 0; key = a .key; id = a .id }) (sym same)
+    first-some d sound x xs ∙ ap {B = Found} (λ (a : Entry). record { answer = 0; key = a .key; release = a .release; id = a .id }) (sym same)
 
 none-is : (es : List Entry) → ((a : Entry) → List·Mem a es → ⊥) → {q : Queue} (d : Dec (Sound q)) → Sound q → first-of d es ≡ refused-find 25
 none-is [] none d sound = first-none d sound
@@ -44,35 +45,31 @@ unfolding first-of
 unsound-find (no unsound) es not-sound = refl
 unsound-find (yes sound) es not-sound = absurd (not-sound sound)
 
-module _ (q : Queue) (sound : Sound q) (pair : Entry) (x : ℕ) (is : IsFirstAfter q pair x) (d : Dec (Sound q)) where
-  of-after : (a : Entry) → List·Mem a (after pair (entries q)) → ∥ ((i : ℕ) × Holds q i × Before pair (entry-at q i) × (a ≡ entry-at q i)) ∥₁
+module _ (q : Queue) (sound : Sound q) (point : Entry) (x : ℕ) (is : IsFirstAfter q point x) (d : Dec (Sound q)) where
+  of-after : (a : Entry) → List·Mem a (after point (entries q)) → ∥ ((i : ℕ) × Holds q i × Before point (entry-at q i) × (a ≡ entry-at q i)) ∥₁
   unfolding after entries
   of-after a m =
-      let w = mem-filter (λ (e : Entry). before pair e) {l = entries q} .0 m in
-      ∥∥₁-elim (of-collected (id-at q) (key-at q) 64 a (w .0)) ∥∥₁-prop
-      (λ v. ∣ (v .0, (v .1, v .2), subst (λ (e : Entry). Before pair e) (v .3) (w .1), v .3) ∣₁)
+      let w = mem-filter (λ (e : Entry). before point e) {l = entries q} .0 m in
+      ∥∥₁-elim (of-collected (entry-at q) 64 a (w .0)) ∥∥₁-prop
+      (λ v. ∣ (v .0, (v .1, v .2), subst (λ (e : Entry). Before point e) (v .3) (w .1), v .3) ∣₁)
 
-  pub after-found : x < 64 → first-of d (after pair (entries q)) ≡ record { answer = 0; key = key-at q x; id = id-at q x }
+  pub after-found : x < 64 → first-of d (after point (entries q)) ≡ record { answer = 0; key = key-at q x; release = release-at q x; id = id-at q x }
   unfolding after entries
   after-found inside =
       let here = is .found inside in
-      first-is (after pair (entries q)) (Pairwise·filter (λ (e : Entry). before pair e) (collected-in-order (id-at q) (key-at q) (sound-once q sound) 64 (omega arith))) (entry-at q x)
-      (mem-filter (λ (e : Entry). before pair e) .1 (in-collected (id-at q) (key-at q) 64 x (here .0 .0) (here .0 .1), here .1))
+      first-is (after point (entries q)) (Pairwise·filter (λ (e : Entry). before point e) (collected-in-order (entry-at q) (sound-once q sound) 64 (omega arith))) (entry-at q x)
+      (mem-filter (λ (e : Entry). before point e) .1 (in-collected (entry-at q) 64 x (here .0 .0) (here .0 .1), here .1))
       (λ a m earlier. ∥∥₁-elim (of-after a m) ⊥-prop (λ w. is .first inside (w .0) (w .1) (w .2) (subst (λ (e : Entry). Before e (entry-at q x)) (w .3) earlier))) d sound
 
-  pub after-none : x ≡ 64 → first-of d (after pair (entries q)) ≡ refused-find 25
-  after-none none = none-is (after pair (entries q)) (λ a m. ∥∥₁-elim (of-after a m) ⊥-prop (λ w. is .none none (w .0) (w .1) (w .2))) d sound
+  pub after-none : x ≡ 64 → first-of d (after point (entries q)) ≡ refused-find 25
+  after-none none = none-is (after point (entries q)) (λ a m. ∥∥₁-elim (of-after a m) ⊥-prop (λ w. is .none none (w .0) (w .1) (w .2))) d sound
 
--- every entry comes after key 0 and id 0, since ids are 1 or more
-pub all-after-zero : (q : Queue) → after (record { key = 0; id = 0 }) (entries q) ≡ entries q
+-- every entry comes after key 0, release 0 and id 0, since ids are 1 or more
+pub all-after-zero : (q : Queue) → after (triple 0 0 0) (entries q) ≡ entries q
 unfolding after entries
 all-after-zero q =
-    filter-eq-self (λ (e : Entry). before (record { key = 0; id = 0 }) e) {l = entries q} .1
-    (λ a m. ∥∥₁-elim (of-collected (id-at q) (key-at q) 64 a m) (before-prop (record { key = 0; id = 0 }) a) (λ w. subst⁻¹ (Before (record { key = 0; id = 0 })) (w .3) (go (key-at q (w .0)) (id-at q (w .0)) (w .2))))
-  where
-    go : (k i : ℕ) → 1 ≤ i → Before (record { key = 0; id = 0 }) (record { key = k; id = i })
-    go zero i some = inr (refl, some)
-    go (suc k) i some = inl (omega arith)
+    filter-eq-self (λ (e : Entry). before (triple 0 0 0) e) {l = entries q} .1
+    (λ a m. ∥∥₁-elim (of-collected (entry-at q) 64 a m) (before-prop (triple 0 0 0) a) (λ w. subst⁻¹ (Before (triple 0 0 0)) (w .3) (then-zero (key-at q (w .0)) (then-zero (release-at q (w .0)) (w .2)))))
 
-pub found-inside : {q : Queue} {pair : Entry} {x : ℕ} → IsFirstAfter q pair x → (x ≡ 64 → ⊥) → x < 64
+pub found-inside : {q : Queue} {point : Entry} {x : ℕ} → IsFirstAfter q point x → (x ≡ 64 → ⊥) → x < 64
 found-inside is some = omega (arith, is .within)

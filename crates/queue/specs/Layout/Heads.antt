@@ -8,8 +8,9 @@ use native.Mathlib.Decide.{decLt}
 use native.Mathlib.Omega.{arith}
 use lib.ListN.{length, getD, set, replicate, length-set, getD-replicate, List·getD-append}
 use lib.Seq.{getD-set-same, getD-set-other, getD-append-add, ext-getD}
-use Rattle.queue.specs.Layout.{queue-of, numbers-from, lone-heads, empty-queue, id-at, key-at, next-at, prev-at, Holds, collected, entries, IsNode, bucket-of, low, high, Linked}
-use Rattle.queue.specs.Layout.LinkFacts.{low-head, high-head}
+use Rattle.queue.specs.Order.{Entry}
+use Rattle.queue.specs.Layout.{queue-of, numbers-from, lone-heads, empty-queue, id-at, key-at, entry-at, next-at, prev-at, Holds, collected, entries, IsNode, bucket-of, Linked}
+use Rattle.queue.specs.Layout.Ranks.{low, high}
 use Rattle.queue.specs.Layout.Collected.{collected-none}
 use Rattle.queue.specs.Calls.{HasEntries}
 use Rattle.queue.specs.declared.Queue.{Queue}
@@ -66,9 +67,9 @@ one-head-more links x below heads =
         subst⁻¹ (λ (k : ℕ). getD (set links x x) k 0 ≡ k) e (getD-set-same links x x 0 (omega (arith, heads .size)))
 
 -- with all heads linked, the queue is the empty one
-pub all-alone : (links : List ℕ) (x : ℕ) → 544 ≤ x → HeadsAlone links x → queue-of (replicate 64 0) (replicate 64 0) links links ≡ empty-queue
+pub all-alone : (links : List ℕ) (x : ℕ) → 544 ≤ x → HeadsAlone links x → queue-of (replicate 64 0) (replicate 64 0) (replicate 64 0) links links ≡ empty-queue
 unfolding empty-queue
-all-alone links x all heads = ap (λ (ls : List ℕ). queue-of (replicate 64 0) (replicate 64 0) ls ls) (ext-getD 0 links lone-heads (heads .size ∙ sym lone-heads-size) each)
+all-alone links x all heads = ap (λ (ls : List ℕ). queue-of (replicate 64 0) (replicate 64 0) (replicate 64 0) ls ls) (ext-getD 0 links lone-heads (heads .size ∙ sym lone-heads-size) each)
   where
     each : (j : ℕ) → j < length links → getD links j 0 ≡ getD lone-heads j 0
     each j below = go (decLt j 64)
@@ -78,17 +79,17 @@ all-alone links x all heads = ap (λ (ls : List ℕ). queue-of (replicate 64 0) 
         go (no head) = heads .alone j (omega arith) (omega (arith, heads .size)) ∙ sym (lone-heads-alone j (omega arith) (omega (arith, heads .size)))
 
 -- ids all 0 leave nothing to collect
-none-collected : (ids keys : ℕ → ℕ) (n : ℕ) → ((i : ℕ) → i < n → ids i ≡ 0) → collected ids keys n ≡ []
+none-collected : (places : ℕ → Entry) (n : ℕ) → ((i : ℕ) → i < n → places i .id ≡ 0) → collected places n ≡ []
 unfolding collected
-none-collected ids keys zero free = refl
-none-collected ids keys (suc n) free = collected-none ids keys n (free n (omega arith)) ∙ none-collected ids keys n (λ i below. free i (omega arith))
+none-collected places zero free = refl
+none-collected places (suc n) free = collected-none places n (free n (omega arith)) ∙ none-collected places n (λ i below. free i (omega arith))
 
 -- with every place free and every head its own neighbour, a queue is sound and has no entry
 module _ (q : Queue) (free : (i : ℕ) → i < 64 → id-at q i ≡ 0) (next-alone : (j : ℕ) → 64 ≤ j → j < 544 → next-at q j ≡ j) (prev-alone : (j : ℕ) → 64 ≤ j → j < 544 → prev-at q j ≡ j) where
   empty-place : {i : ℕ} → Holds q i → ⊥
   empty-place {i} holds = lt-irrefl 0 (omega (arith, holds .1, free i (holds .0)))
 
-  head-alone : (x : ℕ) → IsNode (id-at q) x → Linked (id-at q) (key-at q) (next-at q) (prev-at q) x
+  head-alone : (x : ℕ) → IsNode (id-at q) x → Linked (entry-at q) (next-at q) (prev-at q) x
   head-alone x (inl place) = absurd (empty-place place)
   head-alone x (inr head) =
       let on = next-alone x (head .0) (head .1) in
@@ -97,7 +98,7 @@ module _ (q : Queue) (free : (i : ℕ) → i < 64 → id-at q i ≡ 0) (next-alo
         next-is-node = subst⁻¹ (IsNode (id-at q)) on (inr head);
         next-in-bucket = ap (bucket-of (key-at q)) on;
         next-returns = ap (prev-at q) on ∙ back;
-        in-order = subst⁻¹ (λ (y : ℕ). low (id-at q) x < high (id-at q) y) on (omega (arith, low-head (id-at q) x (head .0), high-head (id-at q) x (head .0)));
+        in-order = λ inside. absurd (lt-irrefl 64 (omega (arith, inside, head .0)));
         prev-is-node = subst⁻¹ (IsNode (id-at q)) back (inr head);
         prev-returns = ap (next-at q) back ∙ on;
       }
@@ -111,8 +112,9 @@ module _ (q : Queue) (free : (i : ℕ) → i < 64 → id-at q i ≡ 0) (next-alo
               ids-in-range = λ i holds. absurd (empty-place holds);
               once = λ i j holds. absurd (empty-place holds);
               keys-in-range = λ i holds. absurd (empty-place holds);
+              released = λ i holds. absurd (empty-place holds);
               span = λ i j holds. absurd (empty-place holds);
               links = head-alone;
             };
-        content = none-collected (id-at q) (key-at q) 64 free;
+        content = none-collected (entry-at q) 64 free;
       }

@@ -9,24 +9,26 @@ use native.Mathlib.Omega.{arith}
 use lib.ListN.{length, drop, getD, set, length-set}
 use lib.Seq.{drop-cons, getD-set-same, getD-set-other}
 use Rattle.basics.specs.Members.{getD-mem}
-use Rattle.queue.specs.Order.{Entry, Before, before}
+use Rattle.basics.specs.Lexicographic.{then-zero}
+use Rattle.queue.specs.Order.{Entry, Before, before, triple}
 use Rattle.queue.specs.Entries.{after}
 use Rattle.queue.specs.EntryFacts.{InOrder, entry-path, before-asym, before-prop}
-use Rattle.queue.specs.Layout.{id-at, key-at, entry-at, Holds, entries, Sound, bucket-of-key}
-use Rattle.queue.specs.Layout.LinkFacts.{low-place, low-head, bucket-place, bucket-head}
+use Rattle.queue.specs.Layout.{id-at, key-at, release-at, entry-at, Holds, entries, Sound, bucket-of-key}
+use Rattle.queue.specs.Layout.Ranks.{low-place, low-head, bucket-place, bucket-head}
+use Rattle.queue.specs.Layout.SoundnessFacts.{IsLeast}
 use Rattle.queue.specs.Layout.Collected.{of-collected, collected-in-order, collected-length}
 use Rattle.queue.specs.Layout.Decide.{decide-sound}
 use Rattle.queue.specs.Layout.First.{first-some, after-found, after-none, found-inside}
 use Rattle.queue.specs.Layout.SoundFacts.{sound-once}
-use Rattle.queue.specs.Layout.SoundnessFacts.{IsLeast}
 use Rattle.queue.specs.Layout.Walk.{head-below}
+use Rattle.queue.specs.Layout.Buckets.{place-rank}
 use Rattle.queue.specs.Calls.{first-of}
-use Rattle.queue.specs.Inner.{IsFirstAfter, StandsAt, pair-at, IsInOrder}
+use Rattle.queue.specs.Inner.{IsFirstAfter, StandsAt, point-at, IsInOrder}
 use Rattle.queue.specs.declared.Queue.{Queue}
 use Rattle.queue.specs.declared.Found.{Found}
 
 abbrev no-entry : Entry
-no-entry = record { key = 0; id = 0 }
+no-entry = triple 0 0 0
 
 -- the entries after the one at place i are those that stand after it
 after-place : (es : List Entry) → InOrder es → (i : ℕ) (d : Entry) → i < length es → after (getD es i d) es ≡ drop (suc i) es
@@ -44,18 +46,18 @@ pub record Met (q : Queue) (count k key n : ℕ) (places : List ℕ) : Type 0 wh
   pub within : k ≤ count
   pub met : IsInOrder q k places
   pub stands : k < count → StandsAt q key n
-  pub cursor : k < count → after (pair-at q key n) (entries q) ≡ drop k (entries q)
+  pub cursor : k < count → after (point-at q key n) (entries q) ≡ drop k (entries q)
   pub node : n < 544
   pub long : length places ≡ 64
 
 module _ (q : Queue) (sound : Sound q) (count : ℕ) (some : count ≤ length (entries q)) where
   ordered : InOrder (entries q)
   unfolding entries
-  ordered = collected-in-order (id-at q) (key-at q) (sound-once q sound) 64 (omega arith)
+  ordered = collected-in-order (entry-at q) (sound-once q sound) 64 (omega arith)
 
   entries-at-most : length (entries q) ≤ 64
   unfolding entries
-  entries-at-most = collected-length (id-at q) (key-at q) 64
+  entries-at-most = collected-length (entry-at q) 64
 
   pub in-room : (k : ℕ) → k < count → k < 64
   in-room k below = omega (arith, some, entries-at-most)
@@ -73,9 +75,9 @@ module _ (q : Queue) (sound : Sound q) (count : ℕ) (some : count ≤ length (e
               in-bucket = bucket-head (key-at q) n head ∙ omega (arith, is);
               held = go (least .reached) (getD-mem (entries q) 0 no-entry (omega (arith, some, more)));
             };
-        cursor = λ more. filter-eq-self (λ (e : Entry). before (pair-at q key n) e) .1
-            (λ e m. ∥∥₁-elim (of-collected (id-at q) (key-at q) 64 e m) (before-prop (pair-at q key n) e)
-            (λ w. subst⁻¹ (Before (pair-at q key n)) (w .3) (later (w .0) (least .at-most (w .0) (w .1) (w .2)) (w .2) (decLt key (key-at q (w .0))))));
+        cursor = λ more. filter-eq-self (λ (e : Entry). before (point-at q key n) e) .1
+            (λ e m. ∥∥₁-elim (of-collected (entry-at q) 64 e m) (before-prop (point-at q key n) e)
+            (λ w. subst⁻¹ (Before (point-at q key n)) (w .3) (later (w .0) (least .at-most (w .0) (w .1) (w .2)) (w .2) (decLt key (key-at q (w .0))))));
         node = omega (arith, is, head-below key);
         long = long;
       }
@@ -86,48 +88,48 @@ module _ (q : Queue) (sound : Sound q) (count : ℕ) (some : count ≤ length (e
       go : (key ≡ 2_000_000_000) ⊎ ((j : ℕ) × (j < 64) × (1 ≤ id-at q j) × (key ≡ key-at q j)) → List·Mem (getD (entries q) 0 no-entry) (entries q)
           → ∥ ((j : ℕ) × Holds q j × (key-at q j ≡ key)) ∥₁
       go (inl top) m =
-          ∥∥₁-map (of-collected (id-at q) (key-at q) 64 (getD (entries q) 0 no-entry) m)
+          ∥∥₁-map (of-collected (entry-at q) 64 (getD (entries q) 0 no-entry) m)
           (λ w. let holds : Holds q (w .0) = (w .1, w .2) in
           (w .0, holds, omega (arith, top, least .at-most (w .0) (w .1) (w .2), sound .keys-in-range (w .0) holds)))
       go (inr w) m = ∣ (w .0, (w .1, w .2), sym (w .3)) ∣₁
 
-      later : (i : ℕ) → key ≤ key-at q i → 1 ≤ id-at q i → Dec (key < key-at q i) → Before (pair-at q key n) (entry-at q i)
+      later : (i : ℕ) → key ≤ key-at q i → 1 ≤ id-at q i → Dec (key < key-at q i) → Before (point-at q key n) (entry-at q i)
       later i from id (yes less) = inl less
-      later i from id (no equal) = inr (omega arith, omega (arith, low-head (id-at q) n head))
+      later i from id (no equal) = inr (omega arith, rw (low-head (release-at q) n head, low-head (id-at q) n head) (then-zero (release-at q i) id))
 
-  module _ (k key n : ℕ) (places : List ℕ) (at : Met q count k key n places) (more : k < count) (x : ℕ) (is : IsFirstAfter q (pair-at q key n) x) where
+  module _ (k key n : ℕ) (places : List ℕ) (at : Met q count k key n places) (more : k < count) (x : ℕ) (is : IsFirstAfter q (point-at q key n) x) where
     abbrev entry-k : Entry
     entry-k = getD (entries q) k no-entry
 
-    rest : after (pair-at q key n) (entries q) ≡ entry-k ∷ drop (suc k) (entries q)
+    rest : after (point-at q key n) (entries q) ≡ entry-k ∷ drop (suc k) (entries q)
     rest = at .cursor more ∙ drop-cons (entries q) k no-entry (omega (arith, some))
 
-    first-left : first-of (decide-sound q) (after (pair-at q key n) (entries q)) ≡ record { answer = 0; key = entry-k .key; id = entry-k .id }
+    first-left : first-of (decide-sound q) (after (point-at q key n) (entries q)) ≡ record { answer = 0; key = entry-k .key; release = entry-k .release; id = entry-k .id }
     first-left = ap (first-of (decide-sound q)) rest ∙ first-some (decide-sound q) sound entry-k (drop (suc k) (entries q))
 
     -- one is left, so one is found
     pub found-place : x < 64
     found-place =
         found-inside is
-        (λ none. let absent : 25 ≡ 0 = ap (λ (f : Found). f .answer) (sym (after-none q sound (pair-at q key n) x is (decide-sound q) none) ∙ first-left) in
+        (λ none. let absent : 25 ≡ 0 = ap (λ (f : Found). f .answer) (sym (after-none q sound (point-at q key n) x is (decide-sound q) none) ∙ first-left) in
         lt-irrefl 0 (omega (arith, absent)))
 
     found-entry : entry-at q x ≡ entry-k
     found-entry =
-        let same = sym (after-found q sound (pair-at q key n) x is (decide-sound q) found-place) ∙ first-left in
-        entry-path (entry-at q x) entry-k (ap (λ (f : Found). f .key) same) (ap (λ (f : Found). f .id) same)
+        let same = sym (after-found q sound (point-at q key n) x is (decide-sound q) found-place) ∙ first-left in
+        entry-path (entry-at q x) entry-k (ap (λ (f : Found). f .key) same) (ap (λ (f : Found). f .release) same) (ap (λ (f : Found). f .id) same)
 
     pub one-more-met : (j key′ : ℕ) (places′ : List ℕ) → j ≡ k + 1 → key′ ≡ key-at q x → places′ ≡ set places k x → Met q count j key′ x places′
     one-more-met j key′ places′ is-j is-key is-places =
         let holds = is .found found-place .0 in
         let next-place : suc k ≡ j = omega (arith, is-j) in
-        let pair-is : pair-at q key′ x ≡ entry-k = entry-path (pair-at q key′ x) (entry-at q x) is-key (low-place (id-at q) x found-place) ∙ found-entry in
+        let point-is : point-at q key′ x ≡ entry-k = entry-path (point-at q key′ x) (entry-at q x) is-key (low-place (release-at q) x found-place) (low-place (id-at q) x found-place) ∙ found-entry in
         record {
           within = omega (arith, is-j);
           met = λ i below. go i below (decLt i k);
-          stands = λ _. record { node = inl holds; in-bucket = bucket-place (key-at q) x found-place ∙ ap bucket-of-key (sym is-key); held = ∣ (x, holds, sym is-key) ∣₁ };
+          stands = λ _. record { node = inl (holds .0, place-rank q x holds); in-bucket = bucket-place (key-at q) x found-place ∙ ap bucket-of-key (sym is-key); held = ∣ (x, holds, sym is-key) ∣₁ };
           cursor = λ _.
-              ap (λ (e : Entry). after e (entries q)) pair-is ∙ after-place (entries q) ordered k no-entry (omega (arith, some))
+              ap (λ (e : Entry). after e (entries q)) point-is ∙ after-place (entries q) ordered k no-entry (omega (arith, some))
               ∙ ap (λ (i : ℕ). drop i (entries q)) next-place;
           node = omega (arith, found-place);
           long = ap length is-places ∙ length-set places k x ∙ at .long;

@@ -5,11 +5,11 @@ use Prim.Native.Nat.{ℕ, _-_, _≤_, _<_}
 use native.Mathlib.Nat.{lt-irrefl}
 use native.Mathlib.Decide.{decLt, ℕ-discrete}
 use native.Mathlib.Omega.{arith}
-use Rattle.queue.specs.Layout.{IsNode, bucket-of-key, bucket-of, low, high, Linked, AllLinked}
-use Rattle.queue.specs.Layout.LinkFacts.{low-place, high-place, bucket-place}
+use Rattle.queue.specs.Layout.{IsNode, bucket-of-key, bucket-of}
+use Rattle.queue.specs.Layout.Ranks.{low, high, RankLinked, AllRankLinked, low-place, high-place, bucket-place}
 
 -- f′ is f with the value v at x
-pub record IsSet (f : ℕ → ℕ) (x v : ℕ) (f′ : ℕ → ℕ) : Type 0 where
+pub record IsSet {A : Type 0} (f : ℕ → A) (x : ℕ) (v : A) (f′ : ℕ → A) : Type 0 where
   pub at : f′ x ≡ v
   pub elsewhere : (y : ℕ) → (y ≡ x → ⊥) → f′ y ≡ f y
 
@@ -25,20 +25,20 @@ module _ (ids ids′ keys keys′ : ℕ → ℕ) (y : ℕ) (same-id : ids′ y �
 
   keep-high : high ids′ y ≡ high ids y
   unfolding high
-  keep-high = ap (λ (v : ℕ). ite (decLt y 64) v 32768) same-id
+  keep-high = ap (λ (v : ℕ). ite (decLt y 64) v 65_536_000_032_768) same-id
 
   keep-bucket : bucket-of keys′ y ≡ bucket-of keys y
   unfolding bucket-of
   keep-bucket = ap (λ (v : ℕ). ite (decLt y 64) (bucket-of-key v) (y - 64)) same-key
 
--- the two halves of Linked: the link to the next node, and the link to the one before
+-- the two halves of RankLinked: the link to the next node, and the link to the one before
 abbrev NextOk : (ids keys next prev : ℕ → ℕ) → ℕ → Type 0
 NextOk ids keys next prev y = IsNode ids (next y) × (bucket-of keys (next y) ≡ bucket-of keys y) × (prev (next y) ≡ y) × (low ids y < high ids (next y))
 
 abbrev PrevOk : (ids next prev : ℕ → ℕ) → ℕ → Type 0
 PrevOk ids next prev y = IsNode ids (prev y) × (next (prev y) ≡ y)
 
-both-ok : (ids keys next prev : ℕ → ℕ) (y : ℕ) → NextOk ids keys next prev y → PrevOk ids next prev y → Linked ids keys next prev y
+both-ok : (ids keys next prev : ℕ → ℕ) (y : ℕ) → NextOk ids keys next prev y → PrevOk ids next prev y → RankLinked ids keys next prev y
 both-ok ids keys next prev y on back =
     record { next-is-node = on .0; next-in-bucket = on .1; next-returns = on .2; in-order = on .3; prev-is-node = back .0; prev-returns = back .1 }
 
@@ -57,7 +57,7 @@ module _ (ids ids′ keys keys′ next′ prev′ : ℕ → ℕ) (y z : ℕ) (sa
 
 -- the links after an entry is put between a node p and the next one
 module _ (ids ids′ keys keys′ next next′ prev prev′ : ℕ → ℕ) (x id key p : ℕ)
-    (linked : AllLinked ids keys next prev) (set-id : IsSet ids x id ids′) (set-key : IsSet keys x key keys′)
+    (linked : AllRankLinked ids keys next prev) (set-id : IsSet ids x id ids′) (set-key : IsSet keys x key keys′)
     (inside : x < 64) (free : ids x ≡ 0) (some : 1 ≤ id) (p-node : IsNode ids p) (bucket : bucket-of keys p ≡ bucket-of-key key)
     (above : low ids p < id) (below : id < high ids (next p))
     (from-p : next′ p ≡ x) (from-x : next′ x ≡ next p) (next-else : (y : ℕ) → (y ≡ p → ⊥) → (y ≡ x → ⊥) → next′ y ≡ next y)
@@ -82,7 +82,7 @@ module _ (ids ids′ keys keys′ next next′ prev prev′ : ℕ → ℕ) (x id
   kept : (y : ℕ) → IsNode ids y → (ids′ y ≡ ids y) × (keys′ y ≡ keys y)
   kept y node = (set-id .elsewhere y (not-free y node), set-key .elsewhere y (not-free y node))
 
-  at-x : Linked ids′ keys′ next′ prev′ x
+  at-x : RankLinked ids′ keys′ next′ prev′ x
   at-x =
       let n = next p in
       let k = kept n n-node in
@@ -120,25 +120,25 @@ module _ (ids ids′ keys keys′ next next′ prev prev′ : ℕ → ℕ) (x id
       prev-kept ids ids′ keys keys′ next′ prev′ y (prev y) (kept y node) (kept (prev y) (l .prev-is-node)) (l .prev-is-node)
       (prev-else y other (not-free y node)) (next-else (prev y) not-p (not-free (prev y) (l .prev-is-node)) ∙ l .prev-returns)
 
-  pub put-linked : AllLinked ids′ keys′ next′ prev′
+  pub put-linked : AllRankLinked ids′ keys′ next′ prev′
   put-linked y node = go (ℕ-discrete y x)
     where
-      go : Dec (y ≡ x) → Linked ids′ keys′ next′ prev′ y
-      go (yes e) = subst⁻¹ (Linked ids′ keys′ next′ prev′) e at-x
+      go : Dec (y ≡ x) → RankLinked ids′ keys′ next′ prev′ y
+      go (yes e) = subst⁻¹ (RankLinked ids′ keys′ next′ prev′) e at-x
       go (no other) =
           let old = put-node y node other in
           both-ok ids′ keys′ next′ prev′ y (next-elsewhere y old (ℕ-discrete y p)) (prev-elsewhere y old (ℕ-discrete y (next p)))
 
 -- the links after an entry x is taken out
 module _ (ids ids′ keys keys′ next next′ prev prev′ : ℕ → ℕ) (x key : ℕ)
-    (linked : AllLinked ids keys next prev) (set-id : IsSet ids x 0 ids′) (set-key : IsSet keys x key keys′)
+    (linked : AllRankLinked ids keys next prev) (set-id : IsSet ids x 0 ids′) (set-key : IsSet keys x key keys′)
     (inside : x < 64) (holds : 1 ≤ ids x)
     (over : next′ (prev x) ≡ next x) (next-rest : (y : ℕ) → (y ≡ prev x → ⊥) → (y ≡ x → ⊥) → next′ y ≡ next y)
     (under : prev′ (next x) ≡ prev x) (prev-rest : (y : ℕ) → (y ≡ next x → ⊥) → (y ≡ x → ⊥) → prev′ y ≡ prev y) where
-  gone : Linked ids keys next prev x
+  gone : RankLinked ids keys next prev x
   gone = linked x (inl (inside, holds))
 
-  before-gone : Linked ids keys next prev (prev x)
+  before-gone : RankLinked ids keys next prev (prev x)
   before-gone = linked (prev x) (gone .prev-is-node)
 
   -- ids rise past x, so x is neither its own next nor its own previous
@@ -181,7 +181,7 @@ module _ (ids ids′ keys keys′ next next′ prev prev′ : ℕ → ℕ) (x ke
       prev-kept ids ids′ keys keys′ next′ prev′ y (prev y) (stays y other) (stays (prev y) not-x) (l .prev-is-node)
       (prev-rest y not-n other) (next-rest (prev y) not-p not-x ∙ l .prev-returns)
 
-  pub taken-linked : AllLinked ids′ keys′ next′ prev′
+  pub taken-linked : AllRankLinked ids′ keys′ next′ prev′
   taken-linked y node =
       let old = left-node y node in
       both-ok ids′ keys′ next′ prev′ y (next-left y (old .1) (old .0) (ℕ-discrete y (prev x))) (prev-left y (old .1) (old .0) (ℕ-discrete y (next x)))

@@ -1,21 +1,23 @@
 -- A sound queue stays sound when an entry is put in or taken out, and its entries change as the list says.
-use mathlib.Core.Path.{_≡_, sym, ap, subst, subst⁻¹, _∙_}
+use mathlib.Core.Path.{_≡_, refl, sym, ap, subst, subst⁻¹, _∙_}
 use mathlib.Core.Logic.{inl, inr, ∥∥₁-elim, Dec·not}
 use mathlib.Core.List.{List, List·Mem, mem-filter}
-use Prim.Native.Nat.{ℕ, _≤_, _<_}
+use Prim.Native.Nat.{ℕ, _+_, _≤_, _<_}
 use native.Mathlib.Bridge.{le-prop}
 use native.Mathlib.Nat.{lt-irrefl}
-use native.Mathlib.Decide.{ℕ-discrete}
+use native.Mathlib.Decide.{decLe, ℕ-discrete}
 use native.Mathlib.Omega.{arith}
 use lib.ListN.{length, getD, set, length-set}
 use lib.Seq.{getD-set-same, getD-set-other}
-use Rattle.queue.specs.Order.{Entry}
+use Rattle.basics.specs.Lexicographic.{then-rest}
+use Rattle.queue.specs.Order.{Entry, Before, triple}
 use Rattle.queue.specs.Entries.{put, without, InBounds}
-use Rattle.queue.specs.Layout.{id-at, key-at, next-at, prev-at, Holds, entries, IsNode, bucket-of-key, bucket-of, low, high, Linked, AllLinked, Sound}
-use Rattle.queue.specs.Layout.LinkFacts.{high-place, low-place}
+use Rattle.queue.specs.Layout.{id-at, key-at, release-at, entry-at, next-at, prev-at, Holds, entries, IsNode, bucket-of, AllLinked, Sound}
+use Rattle.queue.specs.Layout.Ranks.{rank, rank-at, low, high, RankLinked, AllRankLinked, rank-some, rank-none, rank-holds, holds-rank, rank-id, rank-less, less-rank, low-place, low-head, high-place, high-head, bucket-place}
 use Rattle.queue.specs.Layout.LinkChange.{IsSet, put-linked, taken-linked}
-use Rattle.queue.specs.Layout.Collected.{Once, entry, of-collected, in-collected, put-once, put-collected, taken-once, taken-collected}
-use Rattle.queue.specs.Inner.{HasShape, put-before, taken-out}
+use Rattle.queue.specs.Layout.Collected.{Once, of-collected, in-collected, put-once, put-collected, taken-once, taken-collected}
+use Rattle.queue.specs.Inner.{HasShape, put-before, taken-out, IsPosition}
+use Rattle.queue.specs.EntryFacts.{entry-path}
 use Rattle.queue.specs.declared.Queue.{Queue}
 
 is-set : (l : List ℕ) (x v : ℕ) → x < length l → IsSet (λ i. getD l i 0) x v (λ i. getD (set l x v) i 0)
@@ -33,87 +35,205 @@ pub sound-in-bounds : (q : Queue) → Sound q → InBounds (entries q)
 unfolding entries
 sound-in-bounds q sound =
     record {
-      keys = λ e m. ∥∥₁-elim (of-collected (id-at q) (key-at q) 64 e m) le-prop (λ w. rw (w .3) (sound .keys-in-range (w .0) (w .1, w .2)));
+      keys = λ e m. ∥∥₁-elim (of-collected (entry-at q) 64 e m) le-prop (λ w. rw (w .3) (sound .keys-in-range (w .0) (w .1, w .2)));
+      released = λ e m. ∥∥₁-elim (of-collected (entry-at q) 64 e m) le-prop (λ w. rw (w .3) (sound .released (w .0) (w .1, w .2)));
       span = λ d e md me.
-          ∥∥₁-elim (of-collected (id-at q) (key-at q) 64 d md) le-prop
-          (λ v. ∥∥₁-elim (of-collected (id-at q) (key-at q) 64 e me) le-prop (λ w. rw (v .3, w .3) (sound .span (v .0) (w .0) (v .1, v .2) (w .1, w .2))));
+          ∥∥₁-elim (of-collected (entry-at q) 64 d md) le-prop
+          (λ v. ∥∥₁-elim (of-collected (entry-at q) 64 e me) le-prop (λ w. rw (v .3, w .3) (sound .span (v .0) (w .0) (v .1, v .2) (w .1, w .2))));
     }
 
-in-entries : (q : Queue) (i : ℕ) → Holds q i → List·Mem (entry (id-at q) (key-at q) i) (entries q)
+in-entries : (q : Queue) (i : ℕ) → Holds q i → List·Mem (entry-at q i) (entries q)
 unfolding entries
-in-entries q i holds = in-collected (id-at q) (key-at q) 64 i (holds .0) (holds .1)
+in-entries q i holds = in-collected (entry-at q) 64 i (holds .0) (holds .1)
+
+-- a node is one by its rank as by its id
+pub rank-node : (q : Queue) (x : ℕ) → IsNode (rank-at q) x → IsNode (id-at q) x
+rank-node q x (inl place) = inl (place .0, holds-rank (release-at q x) (id-at q x) (place .1))
+rank-node q x (inr head) = inr head
+
+pub node-rank : (q : Queue) (x : ℕ) → IsNode (id-at q) x → IsNode (rank-at q) x
+node-rank q x (inl place) = inl (place .0, rank-holds (release-at q x) (id-at q x) (place .1))
+node-rank q x (inr head) = inr head
+
+pub node-place : (q : Queue) (n : ℕ) → IsNode (rank-at q) n → n < 64 → Holds q n
+node-place q n (inl place) inside = (inside, holds-rank (release-at q n) (id-at q n) (place .1))
+node-place q n (inr head) inside = absurd (lt-irrefl 64 (omega (arith, head .0)))
+
+abbrev ShortSpan : Queue → Type 0
+ShortSpan q = (i j : ℕ) → Holds q i → Holds q j → key-at q i ≤ key-at q j + 479
+
+-- keys of one bucket that are at most 479 apart are one
+one-key : (q : Queue) → ShortSpan q → (i j : ℕ) → Holds q i → Holds q j → bucket-of (key-at q) j ≡ bucket-of (key-at q) i → key-at q i ≡ key-at q j
+one-key q span i j hi hj same = omega (arith, span i j hi hj, span j i hj hi, same, bucket-place (key-at q) i (hi .0), bucket-place (key-at q) j (hj .0))
+
+-- nodes that are linked by their ranks are linked ..
+ranks-linked : (q : Queue) → ((i : ℕ) → Holds q i → id-at q i ≤ 32767) → ShortSpan q → AllRankLinked (rank-at q) (key-at q) (next-at q) (prev-at q) → AllLinked (entry-at q) (next-at q) (prev-at q)
+ranks-linked q range span linked x node =
+    let l = linked x (node-rank q x node) in
+    let n = next-at q x in
+    record {
+      next-is-node = rank-node q n (l .next-is-node);
+      next-in-bucket = l .next-in-bucket;
+      next-returns = l .next-returns;
+      in-order = λ inside below.
+          let here = node-place q x (node-rank q x node) inside in
+          let there = node-place q n (l .next-is-node) below in
+          inr (
+            one-key q span x n here there (l .next-in-bucket),
+            less-rank (release-at q x) (release-at q n) (id-at q x) (id-at q n) (here .1) (there .1) (range n there)
+                (omega (arith, l .in-order, low-place (rank-at q) x inside, high-place (rank-at q) n below)),
+          );
+      prev-is-node = rank-node q (prev-at q x) (l .prev-is-node);
+      prev-returns = l .prev-returns;
+    }
 
 -- ids in range, ids apart, entries within the bounds, and links: that is all there is to soundness
-made-sound : (q : Queue) → ((i : ℕ) → Holds q i → id-at q i ≤ 32767) → Once (id-at q) → InBounds (entries q) → AllLinked (id-at q) (key-at q) (next-at q) (prev-at q) → Sound q
+made-sound : (q : Queue) → ((i : ℕ) → Holds q i → id-at q i ≤ 32767) → Once (id-at q) → InBounds (entries q) → AllRankLinked (rank-at q) (key-at q) (next-at q) (prev-at q) → Sound q
 made-sound q range once bounds links =
     record {
       ids-in-range = range;
       once = λ i j hi hj. once i j (hi .0) (hj .0) (hi .1);
-      keys-in-range = λ i hi. bounds .keys (entry (id-at q) (key-at q) i) (in-entries q i hi);
-      span = λ i j hi hj. bounds .span (entry (id-at q) (key-at q) i) (entry (id-at q) (key-at q) j) (in-entries q i hi) (in-entries q j hj);
-      links = links;
+      keys-in-range = λ i hi. bounds .keys (entry-at q i) (in-entries q i hi);
+      released = λ i hi. bounds .released (entry-at q i) (in-entries q i hi);
+      span = span;
+      links = ranks-linked q range span links;
+    }
+  where
+    span : ShortSpan q
+    span i j hi hj = bounds .span (entry-at q i) (entry-at q j) (in-entries q i hi) (in-entries q j hj)
+
+-- an entry set at a place, and its rank
+entry-set-at : (q q′ : Queue) (x : ℕ) (e : Entry) → IsSet (id-at q) x (e .id) (id-at q′) → IsSet (key-at q) x (e .key) (key-at q′) → IsSet (release-at q) x (e .release) (release-at q′)
+    → IsSet (entry-at q) x e (entry-at q′)
+entry-set-at q q′ x e id key release =
+    record {
+      at = entry-path (entry-at q′ x) e (key .at) (release .at) (id .at);
+      elsewhere = λ y other. entry-path (entry-at q′ y) (entry-at q y) (key .elsewhere y other) (release .elsewhere y other) (id .elsewhere y other);
     }
 
-module _ (q : Queue) (sound : Sound q) (shape : HasShape q) (x id key n : ℕ) (inside : x < 64) (free : id-at q x ≡ 0) (some : 1 ≤ id) (small : id ≤ 32767)
-    (unused : (i : ℕ) → i < 64 → id-at q i ≡ id → ⊥) (node : IsNode (id-at q) n) (bucket : bucket-of (key-at q) n ≡ bucket-of-key key)
-    (above : low (id-at q) (prev-at q n) < id) (below : id < high (id-at q) n) where
+rank-set-at : (q q′ : Queue) (x : ℕ) (e : Entry) → IsSet (entry-at q) x e (entry-at q′) → IsSet (rank-at q) x (rank (e .release) (e .id)) (rank-at q′)
+rank-set-at q q′ x e set =
+    record {
+      at = ap (λ (a : Entry). rank (a .release) (a .id)) (set .at);
+      elsewhere = λ y other. ap (λ (a : Entry). rank (a .release) (a .id)) (set .elsewhere y other);
+    }
+
+-- ranks in a sound queue are below that of a head that the list comes back to
+pub rank-small : (release key id : ℕ) → release ≤ key → key ≤ 2_000_000_000 → id ≤ 32767 → rank release id < 65_536_000_032_768
+rank-small release key id before within small = go (decLe 1 id)
+  where
+    go : Dec (1 ≤ id) → rank release id < 65_536_000_032_768
+    go (yes some) = omega (arith, rank-some release id some)
+    go (no none) = omega (arith, rank-none release id (omega arith))
+
+pub sound-rank : (q : Queue) → Sound q → (i : ℕ) → Holds q i → rank-at q i < 65_536_000_032_768
+sound-rank q sound i holds = rank-small (release-at q i) (key-at q i) (id-at q i) (sound .released i holds) (sound .keys-in-range i holds) (sound .ids-in-range i holds)
+
+-- .. and in a sound queue nodes are linked by their ranks
+module _ (q : Queue) (sound : Sound q) (x : ℕ) where
+  by-rank : (n : ℕ) → IsNode (id-at q) x → IsNode (id-at q) n → bucket-of (key-at q) n ≡ bucket-of (key-at q) x → (x < 64 → n < 64 → Before (entry-at q x) (entry-at q n)) → low (rank-at q) x < high (rank-at q) n
+  by-rank n (inr head) (inr on) bucket order = omega (arith, low-head (rank-at q) x (head .0), high-head (rank-at q) n (on .0))
+  by-rank n (inr head) (inl on) bucket order = omega (arith, low-head (rank-at q) x (head .0), high-place (rank-at q) n (on .0), rank-holds (release-at q n) (id-at q n) (on .1))
+  by-rank n (inl place) (inr on) bucket order = omega (arith, low-place (rank-at q) x (place .0), high-head (rank-at q) n (on .0), sound-rank q sound x place)
+  by-rank n (inl place) (inl on) bucket order =
+      rw (low-place (rank-at q) x (place .0), high-place (rank-at q) n (on .0))
+      (rank-less (release-at q x) (release-at q n) (id-at q x) (id-at q n) (place .1) (sound .ids-in-range x place) (on .1)
+      (then-rest (one-key q (sound .span) x n place on bucket) (order (place .0) (on .0))))
+
+  pub rank-links : IsNode (rank-at q) x → RankLinked (rank-at q) (key-at q) (next-at q) (prev-at q) x
+  rank-links node =
+      let here = rank-node q x node in
+      let l = sound .links x here in
+      record {
+        next-is-node = node-rank q (next-at q x) (l .next-is-node);
+        next-in-bucket = l .next-in-bucket;
+        next-returns = l .next-returns;
+        in-order = by-rank (next-at q x) here (l .next-is-node) (l .next-in-bucket) (l .in-order);
+        prev-is-node = node-rank q (prev-at q x) (l .prev-is-node);
+        prev-returns = l .prev-returns;
+      }
+
+-- a new id has a new rank
+pub new-rank : (q : Queue) → Sound q → (release id : ℕ) → 1 ≤ id → id ≤ 32767 → ((i : ℕ) → i < 64 → id-at q i ≡ id → ⊥) → (i : ℕ) → i < 64 → rank-at q i ≡ rank release id → ⊥
+new-rank q sound release id some small unused i below same = go (decLe 1 (id-at q i))
+  where
+    go : Dec (1 ≤ id-at q i) → ⊥
+    go (yes holds) = unused i below (rank-id (release-at q i) release (id-at q i) id holds (sound .ids-in-range i (below, holds)) some small same)
+    go (no free) = lt-irrefl 0 (omega (arith, same, rank-none (release-at q i) (id-at q i) (omega arith), rank-holds release id some))
+
+-- and so do ids that differ
+pub sound-rank-once : (q : Queue) → Sound q → Once (rank-at q)
+sound-rank-once q sound i j li lj holds same =
+    let hi = holds-rank (release-at q i) (id-at q i) holds in
+    let hj = holds-rank (release-at q j) (id-at q j) (rw same at holds) in
+    sound .once i j (li, hi) (lj, hj) (rank-id (release-at q i) (release-at q j) (id-at q i) (id-at q j) hi (sound .ids-in-range i (li, hi)) hj (sound .ids-in-range j (lj, hj)) same)
+
+module _ (q : Queue) (sound : Sound q) (shape : HasShape q) (x : ℕ) (e : Entry) (n : ℕ) (inside : x < 64) (free : id-at q x ≡ 0) (some : 1 ≤ e .id) (small : e .id ≤ 32767)
+    (unused : (i : ℕ) → i < 64 → id-at q i ≡ e .id → ⊥) (position : IsPosition q (e .key) (rank (e .release) (e .id)) n) where
   q′ : Queue
-  q′ = put-before q x id key n
+  q′ = put-before q x e n
 
   p : ℕ
   p = prev-at q n
 
-  here : Linked (id-at q) (key-at q) (next-at q) (prev-at q) n
-  here = sound .links n node
+  node : IsNode (rank-at q) n
+  node = position .node
 
-  set-id : IsSet (id-at q) x id (id-at q′)
+  here : RankLinked (rank-at q) (key-at q) (next-at q) (prev-at q) n
+  here = rank-links q sound n node
+
+  set-entry : IsSet (entry-at q) x e (entry-at q′)
   unfolding q′
-  set-id = is-set (q .ids) x id (omega (arith, shape .ids))
+  set-entry =
+      entry-set-at q q′ x e (is-set (q .ids) x (e .id) (omega (arith, shape .ids))) (is-set (q .keys) x (e .key) (omega (arith, shape .keys)))
+      (is-set (q .releases) x (e .release) (omega (arith, shape .releases)))
 
-  set-key : IsSet (key-at q) x key (key-at q′)
+  set-key : IsSet (key-at q) x (e .key) (key-at q′)
   unfolding q′
-  set-key = is-set (q .keys) x key (omega (arith, shape .keys))
+  set-key = is-set (q .keys) x (e .key) (omega (arith, shape .keys))
 
-  not-x : (y : ℕ) → IsNode (id-at q) y → y ≡ x → ⊥
-  not-x y (inl place) e = lt-irrefl 0 (omega (arith, subst (λ (z : ℕ). 1 ≤ id-at q z) e (place .1), free))
+  free-rank : rank-at q x ≡ 0
+  free-rank = rank-none (release-at q x) (id-at q x) free
+
+  not-x : (y : ℕ) → IsNode (rank-at q) y → y ≡ x → ⊥
+  not-x y (inl place) e = lt-irrefl 0 (omega (arith, subst (λ (z : ℕ). 1 ≤ rank-at q z) e (place .1), free-rank))
   not-x y (inr head) e = lt-irrefl 0 (omega (arith, e))
 
-  pub put-entries : entries (put-before q x id key n) ≡ put (record { key = key; id = id }) (entries q)
+  pub put-entries : entries (put-before q x e n) ≡ put e (entries q)
   unfolding entries q′
-  put-entries = put-collected (id-at q) (id-at q′) (key-at q) (key-at q′) x id key inside set-id set-key free some (sound-once q sound) unused
+  put-entries = put-collected (entry-at q) (entry-at q′) x e inside set-entry free some (sound-once q sound) unused
 
-  links′ : AllLinked (id-at q′) (key-at q′) (next-at q′) (prev-at q′)
-  unfolding q′ p
+  links′ : AllRankLinked (rank-at q′) (key-at q′) (next-at q′) (prev-at q′)
+  unfolding q′ p node
   links′ =
-      put-linked (id-at q) (id-at q′) (key-at q) (key-at q′) (next-at q) (next-at q′) (prev-at q) (prev-at q′) x id key p
-      (sound .links) set-id set-key inside free some (here .prev-is-node)
-      (sym (sound .links p (here .prev-is-node) .next-in-bucket) ∙ (ap (bucket-of (key-at q)) (here .prev-returns) ∙ bucket))
-      above (rw (here .prev-returns) below)
-      (getD-set-other (set (q .next) p x) x p n 0 (not-x p (here .prev-is-node)) ∙ getD-set-same (q .next) p x 0 (omega (arith, shape .next, node-below (id-at q) p (here .prev-is-node))))
+      put-linked (rank-at q) (rank-at q′) (key-at q) (key-at q′) (next-at q) (next-at q′) (prev-at q) (prev-at q′) x (rank (e .release) (e .id)) (e .key) p
+      (rank-links q sound) (rank-set-at q q′ x e set-entry) set-key inside free-rank (rank-holds (e .release) (e .id) some) (here .prev-is-node)
+      (sym (rank-links q sound p (here .prev-is-node) .next-in-bucket) ∙ (ap (bucket-of (key-at q)) (here .prev-returns) ∙ position .bucket))
+      (position .above) (rw (here .prev-returns) (position .below))
+      (getD-set-other (set (q .next) p x) x p n 0 (not-x p (here .prev-is-node)) ∙ getD-set-same (q .next) p x 0 (omega (arith, shape .next, node-below (rank-at q) p (here .prev-is-node))))
       (getD-set-same (set (q .next) p x) x n 0 (omega (arith, shape .next, length-set (q .next) p x)) ∙ sym (here .prev-returns))
       (λ y not-p not-here. getD-set-other (set (q .next) p x) x y n 0 not-here ∙ getD-set-other (q .next) p y x 0 not-p)
-      (ap (prev-at q′) (here .prev-returns) ∙ (getD-set-other (set (q .prev) n x) x n p 0 (not-x n node) ∙ getD-set-same (q .prev) n x 0 (omega (arith, shape .prev, node-below (id-at q) n node))))
+      (ap (prev-at q′) (here .prev-returns) ∙ (getD-set-other (set (q .prev) n x) x n p 0 (not-x n node) ∙ getD-set-same (q .prev) n x 0 (omega (arith, shape .prev, node-below (rank-at q) n node))))
       (getD-set-same (set (q .prev) n x) x p 0 (omega (arith, shape .prev, length-set (q .prev) n x)))
       (λ y not-n not-here. getD-set-other (set (q .prev) n x) x y p 0 not-here ∙ getD-set-other (q .prev) n y x 0 (λ e. not-n (e ∙ sym (here .prev-returns))))
 
-  pub put-sound : InBounds (put (record { key = key; id = id }) (entries q)) → Sound (put-before q x id key n)
+  pub put-sound : InBounds (put e (entries q)) → Sound (put-before q x e n)
   unfolding q′
   put-sound bounds =
-      made-sound q′ range
-      (put-once (id-at q) (id-at q′) (key-at q) (key-at q′) x id key inside set-id set-key free some (sound-once q sound) unused) (rw put-entries bounds) links′
+      made-sound q′ range (put-once (entry-at q) (entry-at q′) x e inside set-entry free some (sound-once q sound) unused) (rw put-entries bounds) links′
     where
       range : (i : ℕ) → Holds q′ i → id-at q′ i ≤ 32767
       range i holds = go (ℕ-discrete i x)
         where
           go : Dec (i ≡ x) → id-at q′ i ≤ 32767
-          go (yes e) = subst⁻¹ (λ (j : ℕ). id-at q′ j ≤ 32767) e (rw (set-id .at) small)
+          go (yes same) = subst⁻¹ (λ (j : ℕ). id-at q′ j ≤ 32767) same (subst⁻¹ (λ (a : Entry). a .id ≤ 32767) (set-entry .at) small)
           go (no other) =
-              let old = set-id .elsewhere i other in
+              let old = ap (λ (a : Entry). a .id) (set-entry .elsewhere i other) in
               rw old (sound .ids-in-range i (holds .0, rw old at (holds .1)))
 
 -- fewer entries are within the bounds too
 pub fewer-in-bounds : (es fs : List Entry) → ((e : Entry) → List·Mem e fs → List·Mem e es) → InBounds es → InBounds fs
-fewer-in-bounds es fs inside bounds = record { keys = λ e m. bounds .keys e (inside e m); span = λ d e md me. bounds .span d e (inside d md) (inside e me) }
+fewer-in-bounds es fs inside bounds = record { keys = λ e m. bounds .keys e (inside e m); released = λ e m. bounds .released e (inside e m); span = λ d e md me. bounds .span d e (inside d md) (inside e me) }
 
 pub in-without : (id : ℕ) (es : List Entry) (e : Entry) → List·Mem e (without id es) → List·Mem e es
 unfolding without
@@ -123,26 +243,31 @@ module _ (q : Queue) (sound : Sound q) (shape : HasShape q) (x : ℕ) (holds : H
   out : Queue
   out = taken-out q x
 
-  there : Linked (id-at q) (key-at q) (next-at q) (prev-at q) x
-  there = sound .links x (inl holds)
+  there : RankLinked (rank-at q) (key-at q) (next-at q) (prev-at q) x
+  there = rank-links q sound x (inl (holds .0, rank-holds (release-at q x) (id-at q x) (holds .1)))
 
-  free-id : IsSet (id-at q) x 0 (id-at out)
+  free-entry : IsSet (entry-at q) x (triple 0 0 0) (entry-at out)
   unfolding out
-  free-id = is-set (q .ids) x 0 (omega (arith, shape .ids, holds .0))
+  free-entry =
+      entry-set-at q out x (triple 0 0 0) (is-set (q .ids) x 0 (omega (arith, shape .ids, holds .0))) (is-set (q .keys) x 0 (omega (arith, shape .keys, holds .0)))
+      (is-set (q .releases) x 0 (omega (arith, shape .releases, holds .0)))
 
   free-key : IsSet (key-at q) x 0 (key-at out)
   unfolding out
   free-key = is-set (q .keys) x 0 (omega (arith, shape .keys, holds .0))
 
+  freed-rank : IsSet (rank-at q) x 0 (rank-at out)
+  freed-rank = record { at = rank-set-at q out x (triple 0 0 0) free-entry .at ∙ rank-none 0 0 refl; elsewhere = rank-set-at q out x (triple 0 0 0) free-entry .elsewhere }
+
   pub taken-entries : entries (taken-out q x) ≡ without (id-at q x) (entries q)
   unfolding entries out
-  taken-entries = taken-collected (id-at q) (id-at out) (key-at q) (key-at out) x 0 (holds .0) free-id free-key (holds .1) (sound-once q sound)
+  taken-entries = taken-collected (entry-at q) (entry-at out) x (triple 0 0 0) (holds .0) free-entry refl (holds .1) (sound-once q sound)
 
-  -- ids rise, so neither neighbour is x itself
+  -- ranks rise, so neither neighbour is x itself
   next-apart : next-at q x ≡ x → ⊥
   next-apart e =
-      lt-irrefl (id-at q x)
-      (subst (λ (z : ℕ). id-at q x < z) (ap (high (id-at q)) e ∙ high-place (id-at q) x (holds .0)) (rw (low-place (id-at q) x (holds .0)) at (there .in-order)))
+      lt-irrefl (rank-at q x)
+      (subst (λ (z : ℕ). rank-at q x < z) (ap (high (rank-at q)) e ∙ high-place (rank-at q) x (holds .0)) (rw (low-place (rank-at q) x (holds .0)) at (there .in-order)))
 
   prev-apart : prev-at q x ≡ x → ⊥
   prev-apart e = next-apart (sym (ap (next-at q) e) ∙ there .prev-returns)
@@ -152,15 +277,15 @@ module _ (q : Queue) (sound : Sound q) (shape : HasShape q) (x : ℕ) (holds : H
   taken-sound =
       made-sound out
       (λ i held.
-      let other : i ≡ x → ⊥ = λ e. lt-irrefl 0 (omega (arith, subst (λ (j : ℕ). 1 ≤ id-at out j) e (held .1), free-id .at)) in
-      let old = free-id .elsewhere i other in
+      let other : i ≡ x → ⊥ = λ e. lt-irrefl 0 (omega (arith, subst (λ (j : ℕ). 1 ≤ id-at out j) e (held .1), ap (λ (a : Entry). a .id) (free-entry .at))) in
+      let old = ap (λ (a : Entry). a .id) (free-entry .elsewhere i other) in
       rw old (sound .ids-in-range i (held .0, rw old at (held .1))))
-      (taken-once (id-at q) (id-at out) (key-at q) (key-at out) x 0 (holds .0) free-id free-key (holds .1) (sound-once q sound))
+      (taken-once (entry-at q) (entry-at out) x (triple 0 0 0) (holds .0) free-entry refl (holds .1) (sound-once q sound))
       (rw taken-entries (fewer-in-bounds (entries q) (without (id-at q x) (entries q)) (in-without (id-at q x) (entries q)) (sound-in-bounds q sound)))
-      (taken-linked (id-at q) (id-at out) (key-at q) (key-at out) (next-at q) (next-at out) (prev-at q) (prev-at out) x 0 (sound .links) free-id free-key (holds .0) (holds .1)
+      (taken-linked (rank-at q) (rank-at out) (key-at q) (key-at out) (next-at q) (next-at out) (prev-at q) (prev-at out) x 0 (rank-links q sound) freed-rank free-key (holds .0) (rank-holds (release-at q x) (id-at q x) (holds .1))
       (getD-set-other (set (q .next) (prev-at q x) (next-at q x)) x (prev-at q x) 0 0 prev-apart
-      ∙ getD-set-same (q .next) (prev-at q x) (next-at q x) 0 (omega (arith, shape .next, node-below (id-at q) (prev-at q x) (there .prev-is-node))))
+      ∙ getD-set-same (q .next) (prev-at q x) (next-at q x) 0 (omega (arith, shape .next, node-below (rank-at q) (prev-at q x) (there .prev-is-node))))
       (λ y not-p not-here. getD-set-other (set (q .next) (prev-at q x) (next-at q x)) x y 0 0 not-here ∙ getD-set-other (q .next) (prev-at q x) y (next-at q x) 0 not-p)
       (getD-set-other (set (q .prev) (next-at q x) (prev-at q x)) x (next-at q x) 0 0 next-apart
-      ∙ getD-set-same (q .prev) (next-at q x) (prev-at q x) 0 (omega (arith, shape .prev, node-below (id-at q) (next-at q x) (there .next-is-node))))
+      ∙ getD-set-same (q .prev) (next-at q x) (prev-at q x) 0 (omega (arith, shape .prev, node-below (rank-at q) (next-at q x) (there .next-is-node))))
       (λ y not-n not-here. getD-set-other (set (q .prev) (next-at q x) (prev-at q x)) x y 0 0 not-here ∙ getD-set-other (q .prev) (next-at q x) y (prev-at q x) 0 not-n))

@@ -17,6 +17,9 @@ empty-requires c κs = search needs
 loop-holds : tie.Need-loop-holds Inv-loop μ-loop
 loop-holds c = omega arith
 
+sub-insert : tie.Need-sub-insert Inv-loop μ-loop
+sub-insert c = omega arith
+
 insert-requires : tie.Need-insert-requires Inv-loop μ-loop
 insert-requires c κs = search needs
 
@@ -49,6 +52,7 @@ full-spec =
     μ-loop
     empty-requires
     loop-holds
+    sub-insert
     insert-requires
     add-id
     loop-less

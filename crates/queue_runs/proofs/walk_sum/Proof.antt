@@ -5,10 +5,10 @@ use Rattle.queue_runs.proofs.walk_sum.Statement.{statement}
 use Rattle.queue_runs.proofs.walk_sum.Tie as tie
 
 abbrev Inv-loop : tie.InvT-loop
-Inv-loop q turns sum₀ key₀ id₀ i₀ sum key id i = i ≤ turns
+Inv-loop q turns sum₀ key₀ release₀ id₀ i₀ sum key release id i = i ≤ turns
 
 abbrev μ-loop : tie.MeasureT-loop
-μ-loop q turns sum₀ key₀ id₀ i₀ sum key id i = turns - i
+μ-loop q turns sum₀ key₀ release₀ id₀ i₀ sum key release id i = turns - i
 
 loop-holds : tie.Need-loop-holds Inv-loop μ-loop
 loop-holds c = search needs
@@ -21,6 +21,9 @@ mix-requires c κs = search needs
 
 mix-requires-2 : tie.Need-mix-requires-2 Inv-loop μ-loop
 mix-requires-2 c κs = search needs
+
+mix-requires-3 : tie.Need-mix-requires-3 Inv-loop μ-loop
+mix-requires-3 c κs = search needs
 
 add-i : tie.Need-add-i Inv-loop μ-loop
 add-i c = search needs
@@ -44,6 +47,7 @@ walk-sum-spec =
     next-requires
     mix-requires
     mix-requires-2
+    mix-requires-3
     add-i
     loop-less
     loop-again

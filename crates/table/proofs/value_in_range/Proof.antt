@@ -15,6 +15,9 @@ enum-told-2 c = search needs
 enum-told-3 : tie.Need-enum-told-3
 enum-told-3 c = search needs
 
+enum-told-4 : tie.Need-enum-told-4
+enum-told-4 c = search needs
+
 add-result : tie.Need-add-result
 add-result c =
     let small : c .before .before .before .args .stream .release + c .before .before .before .args .stream .deadline ≤ 2_000_000_000 = rw (c .before .enum-told3 .given .1) at (c .before .before .before .pre) in
@@ -29,6 +32,9 @@ returns-2 c = search needs
 returns-3 : tie.Need-returns-3
 returns-3 c = rw (c .before .enum-told3 .given .1) refl
 
+returns-4 : tie.Need-returns-4
+returns-4 c = search needs
+
 pub value-in-range-spec : {M : Type 1} → statement M
 value-in-range-spec =
     tie.close
@@ -37,6 +43,8 @@ value-in-range-spec =
     enum-told-2
     enum-told-3
     add-result
+    enum-told-4
     returns
     returns-2
-    returns-3)
+    returns-3
+    returns-4)

@@ -1,22 +1,31 @@
--- `queue::filing::places_file_in_range` meets its contract: the places before x hold pairs, no two the same; those are marked, and n of them are.
-use mathlib.Core.Path.{_≡_, refl, _∙_}
+-- `queue::filing::places_file_in_range` meets its contract: the places before x hold rows, no two the same; those are marked, and n of them are.
+use mathlib.Core.Path.{_≡_, refl, subst, _∙_}
+use mathlib.Core.List.{List}
 use mathlib.Core.Logic.{⊎-elim}
-use Prim.Native.Nat.{_≤_, _-_}
+use Prim.Native.Nat.{ℕ, _≤_, _-_}
 use native.Mathlib.Omega.{arith}
 use borrow.Author.Needs.{needs}
 use lib.ListN.{length, length-set}
 use Rattle.basics.specs.Decides.{decides-no}
+use Rattle.queue.specs.Order.{triple}
+use Rattle.queue.specs.Entries.{row-of}
+use Rattle.queue.specs.Inner.{IsRow}
 use Rattle.queue.specs.Layout.SoundnessFacts.{at}
-use Rattle.queue.specs.Layout.Filing.{FiledTo, filed-none, filed-free, counted-few, filed-all, pair-absent, pair-again, pair-new}
+use Rattle.queue.specs.Layout.Filing.{FiledTo, filed-none, filed-free, counted-few, filed-all, row-absent, row-again, row-new}
 use Rattle.queue.specs.Marks.{no-marks}
 use Rattle.queue.proofs.filing.places_file_in_range.Statement.{statement}
 use Rattle.queue.proofs.filing.places_file_in_range.Tie as tie
 
 abbrev Inv-loop : tie.InvT-loop
-Inv-loop filed under ids keys count met₀ n₀ x₀ met n x = (x ≤ 64) × ((length met ≡ 64) × FiledTo (at filed) (at under) (at ids) (at keys) count x n (at met))
+Inv-loop filed under since ids keys releases count met₀ n₀ x₀ met n x = (x ≤ 64) × ((length met ≡ 64) × FiledTo (row-of filed under since) (row-of ids keys releases) count x n (at met))
 
 abbrev μ-loop : tie.MeasureT-loop
-μ-loop filed under ids keys count met₀ n₀ x₀ met n x = 64 - x
+μ-loop filed under since ids keys releases count met₀ n₀ x₀ met n x = 64 - x
+
+-- the row found is that of the entry at the place
+at-place : (filed under since : List ℕ) {ids keys releases : List ℕ} {n : ℕ} (x : ℕ) {id r : ℕ} → id ≡ at filed x → IsRow ids keys releases n (triple (at under x) (at since x) id) r
+    → IsRow ids keys releases n (row-of filed under since x) r
+at-place filed under since {ids} {keys} {releases} {n} x {id} {r} same row = subst (λ (i : ℕ). IsRow ids keys releases n (triple (at under x) (at since x) i) r) same row
 
 loop-holds : tie.Need-loop-holds Inv-loop μ-loop
 loop-holds c = (omega arith, (refl, filed-none _ (no-marks 64)))
@@ -30,29 +39,35 @@ element-copy-out-wide c = search needs
 wide-requires : tie.Need-wide-requires Inv-loop μ-loop
 wide-requires c κs = search needs
 
-mul-pair-in-range : tie.Need-mul-pair-in-range Inv-loop μ-loop
-mul-pair-in-range c = search needs
+mul-row-in-range : tie.Need-mul-row-in-range Inv-loop μ-loop
+mul-row-in-range c = search needs
 
-element-copy-out-pair-in-range : tie.Need-element-copy-out-pair-in-range Inv-loop μ-loop
-element-copy-out-pair-in-range c = search needs
+element-copy-out-row-in-range : tie.Need-element-copy-out-row-in-range Inv-loop μ-loop
+element-copy-out-row-in-range c = search needs
 
-pair-in-range-requires : tie.Need-pair-in-range-requires Inv-loop μ-loop
-pair-in-range-requires c κs = c .before .before .before .before .before .before .pre
+mul-row-in-range-2 : tie.Need-mul-row-in-range-2 Inv-loop μ-loop
+mul-row-in-range-2 c = search needs
+
+element-copy-out-row-in-range-2 : tie.Need-element-copy-out-row-in-range-2 Inv-loop μ-loop
+element-copy-out-row-in-range-2 c = search needs
+
+row-in-range-requires : tie.Need-row-in-range-requires Inv-loop μ-loop
+row-in-range-requires c κs = c .before .before .before .before .before .before .before .pre
 
 returns : tie.Need-returns Inv-loop μ-loop
-returns c = decides-no (pair-absent (c .before .before .before .before .before .before .before .loop .met) (c .before .before .before .before .before .before .before .before .pre) (c .before .before .before .before .before .before .before .loop .inv .1 .1) (c .before .before .before .before .before .before .loop-test .taken) (c .before .before .before .before .wide .ensures) (c .before .before .before .if1 .taken) (c .before .pair-in-range .ensures) (c .if2 .taken))
+returns c = decides-no (row-absent (c .before .before .before .before .before .before .before .before .loop .met) (c .before .before .before .before .before .before .before .before .before .pre) (c .before .before .before .before .before .before .before .before .loop .inv .1 .1) (c .before .before .before .before .before .before .before .loop-test .taken) (rw (← c .before .before .before .before .before .wide .ensures) (c .before .before .before .before .if1 .taken)) (at-place (c .before .before .before .before .before .before .before .before .before .args .filed .now) (c .before .before .before .before .before .before .before .before .before .args .under .now) (c .before .before .before .before .before .before .before .before .before .args .since .now) (c .before .before .before .before .before .before .before .before .loop .x) (c .before .before .before .before .before .wide .ensures) (c .before .row-in-range .ensures)) (c .if2 .taken))
 
 array-read-if3 : tie.Need-array-read-if3 Inv-loop μ-loop
-array-read-if3 c = omega (arith, c .before .pair-in-range .ensures .found (c .if2 .left) .0, c .before .before .before .before .before .before .before .before .pre .few)
+array-read-if3 c = omega (arith, c .before .row-in-range .ensures .found (c .if2 .left) .0, c .before .before .before .before .before .before .before .before .before .pre .few)
 
 returns-2 : tie.Need-returns-2 Inv-loop μ-loop
-returns-2 c = decides-no (pair-again (c .before .before .before .before .before .before .before .before .loop .met) (c .before .before .before .before .before .before .before .before .before .pre) (c .before .before .before .before .before .before .before .before .loop .inv .1 .1) (c .before .before .before .before .before .before .before .loop-test .taken) (c .before .before .before .before .before .wide .ensures) (c .before .before .before .before .if1 .taken) (c .before .before .pair-in-range .ensures) (c .before .if2 .left) (c .if3 .taken))
+returns-2 c = decides-no (row-again (c .before .before .before .before .before .before .before .before .before .loop .met) (c .before .before .before .before .before .before .before .before .before .before .pre) (c .before .before .before .before .before .before .before .before .before .loop .inv .1 .1) (c .before .before .before .before .before .before .before .before .loop-test .taken) (rw (← c .before .before .before .before .before .before .wide .ensures) (c .before .before .before .before .before .if1 .taken)) (at-place (c .before .before .before .before .before .before .before .before .before .before .args .filed .now) (c .before .before .before .before .before .before .before .before .before .before .args .under .now) (c .before .before .before .before .before .before .before .before .before .before .args .since .now) (c .before .before .before .before .before .before .before .before .before .loop .x) (c .before .before .before .before .before .before .wide .ensures) (c .before .before .row-in-range .ensures)) (c .before .if2 .left) (c .if3 .taken))
 
 array-write-met : tie.Need-array-write-met Inv-loop μ-loop
-array-write-met c = omega (arith, c .before .before .pair-in-range .ensures .found (c .before .if2 .left) .0, c .before .before .before .before .before .before .before .before .before .pre .few)
+array-write-met c = omega (arith, c .before .before .row-in-range .ensures .found (c .before .if2 .left) .0, c .before .before .before .before .before .before .before .before .before .before .pre .few)
 
 add-n : tie.Need-add-n Inv-loop μ-loop
-add-n c = omega (arith, counted-few (c .before .before .before .before .before .before .before .before .loop .inv .1 .1), c .before .before .before .before .before .before .before .before .before .pre .few)
+add-n c = omega (arith, counted-few (c .before .before .before .before .before .before .before .before .before .loop .inv .1 .1), c .before .before .before .before .before .before .before .before .before .before .pre .few)
 
 add-x : tie.Need-add-x Inv-loop μ-loop
 add-x c = omega arith
@@ -65,9 +80,9 @@ loop-again c =
     let loop = c .before .before .before .before .loop in (
       omega arith,
       ⊎-elim
-          (λ w. rw (w .5, w .6) (
-            length-set (loop .met) (w .2 .result) 1 ∙ loop .inv .1 .0,
-            pair-new (loop .met) (c .before .before .before .before .before .pre) (loop .inv .1 .1) (c .before .before .before .loop-test .taken) (c .before .wide .ensures) (w .0 .taken) (w .2 .ensures) (w .3 .left) (w .4 .left) (loop .inv .1 .0),
+          (λ w. rw (w .6, w .7) (
+            length-set (loop .met) (w .3 .result) 1 ∙ loop .inv .1 .0,
+            row-new (loop .met) (c .before .before .before .before .before .pre) (loop .inv .1 .1) (c .before .before .before .loop-test .taken) (rw (← c .before .wide .ensures) (w .0 .taken)) (at-place (c .before .before .before .before .before .args .filed .now) (c .before .before .before .before .before .args .under .now) (c .before .before .before .before .before .args .since .now) (c .before .before .before .before .loop .x) (c .before .wide .ensures) (w .3 .ensures)) (w .4 .left) (w .5 .left) (loop .inv .1 .0),
           ))
           (λ w. rw (w .1, w .2) (loop .inv .1 .0, filed-free (loop .inv .1 .1) (omega (arith, c .before .wide .ensures, w .0 .left))))
           (c .if1 .came),
@@ -89,9 +104,11 @@ places-file-in-range-spec =
     mul-wide
     element-copy-out-wide
     wide-requires
-    mul-pair-in-range
-    element-copy-out-pair-in-range
-    pair-in-range-requires
+    mul-row-in-range
+    element-copy-out-row-in-range
+    mul-row-in-range-2
+    element-copy-out-row-in-range-2
+    row-in-range-requires
     returns
     array-read-if3
     returns-2

@@ -7,7 +7,7 @@ use native.Mathlib.Omega.{arith}
 use lib.ListN.{getD}
 use borrow.Author.Needs.{needs}
 use Rattle.queue.specs.Layout.{Sound}
-use Rattle.queue.specs.Inner.{StandsAt, pair-at}
+use Rattle.queue.specs.Inner.{StandsAt, point-at}
 use Rattle.queue.specs.Layout.Buckets.{AtBucket}
 use Rattle.queue.specs.Layout.Following.{next-follows, after-own, one-bucket-on, first-follows, come-round, none-follows}
 use Rattle.queue.specs.declared.Queue.{Queue}
@@ -18,7 +18,7 @@ use Rattle.queue.proofs.order.following_in_range.Tie as tie
 pub record At (keys next : List ℕ) (key n bucket left : ℕ) : Type 0 where
   below : bucket < 480
   few : left ≤ 479
-  at : (q : Queue) → q .keys ≡ keys → q .next ≡ next → Sound q → StandsAt q key n → AtBucket q key (pair-at q key n) 64 bucket left
+  at : (q : Queue) → q .keys ≡ keys → q .next ≡ next → Sound q → StandsAt q key n → AtBucket q key (point-at q key n) 64 bucket left
 
 abbrev Inv-loop : tie.InvT-loop
 Inv-loop keys next key n on bucket₀ left₀ bucket left = At keys next key n bucket left

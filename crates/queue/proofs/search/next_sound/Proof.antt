@@ -1,7 +1,7 @@
--- `queue::search::next_sound` meets its contract: the place found holds the head of the entries after the pair.
+-- `queue::search::next_sound` meets its contract: the place found holds the head of the entries after the point.
 use mathlib.Core.Path.{sym, ap, _∙_}
 use Prim.Native.Nat.{ℕ}
-use Rattle.queue.specs.Layout.{key-at}
+use Rattle.queue.specs.Layout.{key-at, release-at}
 use Rattle.queue.specs.Layout.Decide.{decide-sound}
 use Rattle.queue.specs.declared.Found.{Found}
 use Rattle.queue.specs.Layout.First.{after-found, after-none, found-inside}
@@ -13,13 +13,19 @@ first-after-sound-requires : tie.Need-first-after-sound-requires
 first-after-sound-requires c κs = search needs
 
 returns : tie.Need-returns
-returns c = sym (after-none (c .before .before .args .t1) (c .before .before .pre) (record { key = c .before .before .args .key; id = c .before .before .args .id }) (c .before .first-after-sound .result) (c .before .first-after-sound .ensures) (decide-sound (c .before .before .args .t1)) (c .if1 .taken))
+returns c = sym (after-none (c .before .before .args .t1) (c .before .before .pre) (record { key = c .before .before .args .key; release = c .before .before .args .release; id = c .before .before .args .id }) (c .before .first-after-sound .result) (c .before .first-after-sound .ensures) (decide-sound (c .before .before .args .t1)) (c .if1 .taken))
 
 mul-there-key : tie.Need-mul-there-key
 mul-there-key c = search needs
 
 element-copy-out-there-key : tie.Need-element-copy-out-there-key
 element-copy-out-there-key c = search needs
+
+mul-there-release : tie.Need-mul-there-release
+mul-there-release c = search needs
+
+element-copy-out-there-release : tie.Need-element-copy-out-there-release
+element-copy-out-there-release c = search needs
 
 mul-there-id : tie.Need-mul-there-id
 mul-there-id c = search needs
@@ -32,8 +38,8 @@ wide-requires c κs = search needs
 
 returns-2 : tie.Need-returns-2
 returns-2 c =
-    ap {B = Found} (λ (i : ℕ). record { answer = 0; key = key-at (c .before .before .before .before .before .args .t1) (c .before .before .before .before .first-after-sound .result); id = i }) (c .wide .ensures)
-    ∙ sym (after-found (c .before .before .before .before .before .args .t1) (c .before .before .before .before .before .pre) (record { key = c .before .before .before .before .before .args .key; id = c .before .before .before .before .before .args .id }) (c .before .before .before .before .first-after-sound .result) (c .before .before .before .before .first-after-sound .ensures) (decide-sound (c .before .before .before .before .before .args .t1)) (found-inside (c .before .before .before .before .first-after-sound .ensures) (c .before .before .before .if1 .left)))
+    ap {B = Found} (λ (i : ℕ). record { answer = 0; key = key-at (c .before .before .before .before .before .before .args .t1) (c .before .before .before .before .before .first-after-sound .result); release = release-at (c .before .before .before .before .before .before .args .t1) (c .before .before .before .before .before .first-after-sound .result); id = i }) (c .wide .ensures)
+    ∙ sym (after-found (c .before .before .before .before .before .before .args .t1) (c .before .before .before .before .before .before .pre) (record { key = c .before .before .before .before .before .before .args .key; release = c .before .before .before .before .before .before .args .release; id = c .before .before .before .before .before .before .args .id }) (c .before .before .before .before .before .first-after-sound .result) (c .before .before .before .before .before .first-after-sound .ensures) (decide-sound (c .before .before .before .before .before .before .args .t1)) (found-inside (c .before .before .before .before .before .first-after-sound .ensures) (c .before .before .before .before .if1 .left)))
 
 pub next-sound-spec : {M : Type 1} → statement M
 next-sound-spec =
@@ -43,6 +49,8 @@ next-sound-spec =
     returns
     mul-there-key
     element-copy-out-there-key
+    mul-there-release
+    element-copy-out-there-release
     mul-there-id
     element-copy-out-there-id
     wide-requires

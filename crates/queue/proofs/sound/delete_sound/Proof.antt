@@ -17,15 +17,15 @@ place-of-requires c κs = search needs
 
 -- src/sound.rt:100:5
 take-out-requires : tie.Need-take-out-requires
-take-out-requires c κs = delete-can-take (c .before .before .before .before .before .before .before .before .before .before .args .q) (c .before .before .before .before .place-of .result) (c .before .before .before .before .before .before .before .before .before .before .pre .sound) (filed-place (c .before .before .before .before .before .before .before .before .before .before .args .q) (c .before .before .before .before .before .before .before .before .before .before .args .id) (c .before .before .before .before .place-of .result) (c .before .before .before .before .before .before .before .before .before .before .pre .filed) (c .before .before .before .before .place-of .ensures) .0)
+take-out-requires c κs = delete-can-take (c .before .before .before .before .before .before .before .before .before .before .before .before .args .q) (c .before .before .before .before .before .place-of .result) (c .before .before .before .before .before .before .before .before .before .before .before .before .pre .sound) (filed-place (c .before .before .before .before .before .before .before .before .before .before .before .before .args .q) (c .before .before .before .before .before .before .before .before .before .before .before .before .args .id) (c .before .before .before .before .before .place-of .result) (c .before .before .before .before .before .before .before .before .before .before .before .before .pre .filed) (c .before .before .before .before .before .place-of .ensures) .0)
 
 -- src/sound.rt:91:1
 returns : tie.Need-returns
 returns c =
-    let there = filed-place (c .before .before .before .before .before .before .before .before .before .before .before .args .q) (c .before .before .before .before .before .before .before .before .before .before .before .args .id) (c .before .before .before .before .before .place-of .result) (c .before .before .before .before .before .before .before .before .before .before .before .pre .filed) (c .before .before .before .before .before .place-of .ensures) in
-    subst⁻¹ (λ (r : Queue). HasEntries r (without (c .before .before .before .before .before .before .before .before .before .before .before .args .id) (entries (c .before .before .before .before .before .before .before .before .before .before .before .args .q)))) (c .take-out .ensures)
-    (subst (λ (n : ℕ). HasEntries (taken-out (c .before .before .before .before .before .before .before .before .before .before .before .args .q) (c .before .before .before .before .before .place-of .result)) (without n (entries (c .before .before .before .before .before .before .before .before .before .before .before .args .q)))) (there .1)
-    (delete-entries (c .before .before .before .before .before .before .before .before .before .before .before .args .q) (c .before .before .before .before .before .place-of .result) (c .before .before .before .before .before .before .before .before .before .before .before .pre .sound) (there .0) (has-shape (c .before .before .before .before .before .before .before .before .before .before .before .args .q) _ (c .before .before .before .before .before .before .before .before .before .before .before .good .0))))
+    let there = filed-place (c .before .before .before .before .before .before .before .before .before .before .before .before .before .args .q) (c .before .before .before .before .before .before .before .before .before .before .before .before .before .args .id) (c .before .before .before .before .before .before .place-of .result) (c .before .before .before .before .before .before .before .before .before .before .before .before .before .pre .filed) (c .before .before .before .before .before .before .place-of .ensures) in
+    subst⁻¹ (λ (r : Queue). HasEntries r (without (c .before .before .before .before .before .before .before .before .before .before .before .before .before .args .id) (entries (c .before .before .before .before .before .before .before .before .before .before .before .before .before .args .q)))) (c .take-out .ensures)
+    (subst (λ (n : ℕ). HasEntries (taken-out (c .before .before .before .before .before .before .before .before .before .before .before .before .before .args .q) (c .before .before .before .before .before .before .place-of .result)) (without n (entries (c .before .before .before .before .before .before .before .before .before .before .before .before .before .args .q)))) (there .1)
+    (delete-entries (c .before .before .before .before .before .before .before .before .before .before .before .before .before .args .q) (c .before .before .before .before .before .before .place-of .result) (c .before .before .before .before .before .before .before .before .before .before .before .before .before .pre .sound) (there .0) (has-shape (c .before .before .before .before .before .before .before .before .before .before .before .before .before .args .q) _ (c .before .before .before .before .before .before .before .before .before .before .before .before .before .good .0))))
 
 pub delete-sound-spec : {M : Type 1} → statement M
 delete-sound-spec = tie.close (tie.spec place-of-requires take-out-requires returns)

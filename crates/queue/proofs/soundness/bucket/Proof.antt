@@ -1,6 +1,6 @@
 -- `queue::soundness::bucket` meets its contract: an entry's bucket is that of its key, a head's its own number.
 use mathlib.Core.Path.{sym, _∙_}
-use Rattle.queue.specs.Layout.LinkFacts.{bucket-place, bucket-head}
+use Rattle.queue.specs.Layout.Ranks.{bucket-place, bucket-head}
 use borrow.Author.Needs.{needs}
 use Rattle.queue.proofs.soundness.bucket.Statement.{statement}
 use Rattle.queue.proofs.soundness.bucket.Tie as tie

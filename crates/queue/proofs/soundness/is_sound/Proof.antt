@@ -16,7 +16,7 @@ all-linked-requires c κs = search needs
 
 returns-2 : tie.Need-returns-2
 returns-2 c =
-    let tested = c .before .before .before .before .before .before in
+    let tested = c .before .before .before .before .before .before .before in
     sound-last _ (passed (tested .before .places-are-sound .ensures) (tested .if1 .left)) (c .all-linked .ensures)
 
 pub is-sound-spec : {M : Type 1} → statement M

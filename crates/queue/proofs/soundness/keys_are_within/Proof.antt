@@ -1,66 +1,17 @@
--- `queue::soundness::keys_are_within` meets its contract: every key before i is within, and one that is not ends the search.
-use Prim.Native.Nat.{_≤_, _-_}
-use native.Mathlib.Omega.{arith}
-use borrow.Author.Count.{below-none, below-more}
+-- `queue::soundness::keys_are_within` meets its contract: the bound is the same at every place.
+use lib.ListN.{getD-replicate}
+use Rattle.basics.specs.Decides.{same-as}
 use borrow.Author.Needs.{needs}
-use Rattle.basics.specs.Decides.{decides-no, decides-yes, failed, passed}
-use Rattle.queue.specs.Layout.SoundnessFacts.{at, Below, KeyWithin}
 use Rattle.queue.proofs.soundness.keys_are_within.Statement.{statement}
 use Rattle.queue.proofs.soundness.keys_are_within.Tie as tie
 
-abbrev Inv-loop : tie.InvT-loop
-Inv-loop ids keys top i₀ i = (i ≤ 64) × Below i (λ k. KeyWithin (at ids k) (at keys k) top)
+all-within-requires : tie.Need-all-within-requires
+all-within-requires c κs = search needs
 
-abbrev μ-loop : tie.MeasureT-loop
-μ-loop ids keys top i₀ i = 64 - i
-
-loop-holds : tie.Need-loop-holds Inv-loop μ-loop
-loop-holds c = (omega arith, below-none _)
-
-mul-key-is-within : tie.Need-mul-key-is-within Inv-loop μ-loop
-mul-key-is-within c = search needs
-
-element-copy-out-key-is-within : tie.Need-element-copy-out-key-is-within Inv-loop μ-loop
-element-copy-out-key-is-within c = omega arith
-
-mul-key-is-within-2 : tie.Need-mul-key-is-within-2 Inv-loop μ-loop
-mul-key-is-within-2 c = search needs
-
-element-copy-out-key-is-within-2 : tie.Need-element-copy-out-key-is-within-2 Inv-loop μ-loop
-element-copy-out-key-is-within-2 c = omega arith
-
-key-is-within-requires : tie.Need-key-is-within-requires Inv-loop μ-loop
-key-is-within-requires c κs = search needs
-
-returns : tie.Need-returns Inv-loop μ-loop
-returns c = decides-no (λ all. failed (c .before .key-is-within .ensures) (c .if1 .taken) (all _ (c .before .before .before .before .loop-test .taken)))
-
-add-i : tie.Need-add-i Inv-loop μ-loop
-add-i c = omega arith
-
-loop-less : tie.Need-loop-less Inv-loop μ-loop
-loop-less c = omega arith
-
-loop-again : tie.Need-loop-again Inv-loop μ-loop
-loop-again c = (omega arith, below-more _ _ (c .before .before .before .before .before .loop .inv .1) (passed (c .before .key-is-within .ensures) (c .if1 .left)))
-
-returns-2 : tie.Need-returns-2 Inv-loop μ-loop
-returns-2 c = decides-yes (λ k l. c .before .loop .inv .1 k (omega arith))
+returns : tie.Need-returns
+returns c =
+    same-as (λ all i below. rw (getD-replicate 64 i (c .before .before .args .top) 0 below) at (all i below)) (λ all i below. rw (getD-replicate 64 i (c .before .before .args .top) 0 below) (all i below))
+    (c .all-within .ensures)
 
 pub keys-are-within-spec : {M : Type 1} → statement M
-keys-are-within-spec =
-    tie.close
-    (tie.spec
-    Inv-loop
-    μ-loop
-    loop-holds
-    mul-key-is-within
-    element-copy-out-key-is-within
-    mul-key-is-within-2
-    element-copy-out-key-is-within-2
-    key-is-within-requires
-    returns
-    add-i
-    loop-less
-    loop-again
-    returns-2)
+keys-are-within-spec = tie.close (tie.spec all-within-requires returns)

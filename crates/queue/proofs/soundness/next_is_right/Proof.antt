@@ -1,4 +1,4 @@
--- `queue::soundness::next_is_right` meets its contract: each test refuses for one of the four conditions, and the last decides the order.
+-- `queue::soundness::next_is_right` meets its contract: each test refuses for one of the three conditions, and the last decides.
 use mathlib.Core.Path.{sym, _∙_}
 use Rattle.basics.specs.Decides.{decides-no, failed, passed}
 use Rattle.queue.specs.Layout.SoundFacts.{node-below}
@@ -27,33 +27,11 @@ node-at-requires c κs =
     let tested = c .before .before .before in node-below (at (tested .before .before .args .ids .now)) _ (passed (tested .before .is-node .ensures) (tested .if1 .left))
 
 returns-3 : tie.Need-returns-3
-returns-3 c = decides-no (λ r. c .if3 .taken (c .before .node-at .ensures ∙ r .returns))
-
-low-end-requires : tie.Need-low-end-requires
-low-end-requires c κs = search needs
-
-high-end-requires : tie.Need-high-end-requires
-high-end-requires c κs = search needs
-
-returns-4 : tie.Need-returns-4
-returns-4 c =
-    let same-bucket = c .before .before .before .before in
+returns-3 c =
+    let same-bucket = c .before in
     let tested = same-bucket .before .before .before in
     next-last (passed (tested .before .is-node .ensures) (tested .if1 .left))
-    (sym (same-bucket .before .before .bucket .ensures) ∙ (same-bucket .if2 .left ∙ same-bucket .before .bucket2 .ensures))
-    (sym (c .before .before .before .node-at .ensures) ∙ c .before .before .if3 .left) (c .before .low-end .ensures) (c .high-end .ensures)
+    (sym (same-bucket .before .before .bucket .ensures) ∙ (same-bucket .if2 .left ∙ same-bucket .before .bucket2 .ensures)) (c .node-at .ensures)
 
 pub next-is-right-spec : {M : Type 1} → statement M
-next-is-right-spec =
-    tie.close
-    (tie.spec
-    is-node-requires
-    returns
-    bucket-requires
-    bucket-requires-2
-    returns-2
-    node-at-requires
-    returns-3
-    low-end-requires
-    high-end-requires
-    returns-4)
+next-is-right-spec = tie.close (tie.spec is-node-requires returns bucket-requires bucket-requires-2 returns-2 node-at-requires returns-3)

@@ -1,6 +1,6 @@
 -- `queue::soundness::places_are_sound` meets its contract: each test refuses for one condition, and the last decides the span.
 use Rattle.basics.specs.Decides.{decides-no, failed, passed}
-use Rattle.queue.specs.Layout.SoundnessFacts.{places-range, places-new, places-keys, places-last}
+use Rattle.queue.specs.Layout.SoundnessFacts.{places-range, places-new, places-keys, places-released, places-last}
 use borrow.Author.Needs.{needs}
 use Rattle.queue.proofs.soundness.places_are_sound.Statement.{statement}
 use Rattle.queue.proofs.soundness.places_are_sound.Tie as tie
@@ -23,14 +23,21 @@ keys-are-within-requires c κs = search needs
 returns-3 : tie.Need-returns-3
 returns-3 c = decides-no (λ s. failed (c .before .keys-are-within .ensures) (c .if3 .taken) (places-keys s))
 
-span-is-short-requires : tie.Need-span-is-short-requires
-span-is-short-requires c κs = passed (c .before .keys-are-within .ensures) (c .if3 .left)
+all-within-requires : tie.Need-all-within-requires
+all-within-requires c κs = search needs
 
 returns-4 : tie.Need-returns-4
-returns-4 c =
-    places-last (passed (c .before .before .before .before .before .before .ids-in-range .ensures) (c .before .before .before .before .before .if1 .left))
-    (passed (c .before .before .before .before .ids-differ .ensures) (c .before .before .before .if2 .left))
-    (passed (c .before .before .keys-are-within .ensures) (c .before .if3 .left)) (c .span-is-short .ensures)
+returns-4 c = decides-no (λ s. failed (c .before .all-within .ensures) (c .if4 .taken) (places-released s))
+
+span-is-short-requires : tie.Need-span-is-short-requires
+span-is-short-requires c κs = passed (c .before .before .before .keys-are-within .ensures) (c .before .before .if3 .left)
+
+returns-5 : tie.Need-returns-5
+returns-5 c =
+    places-last (passed (c .before .before .before .before .before .before .before .before .ids-in-range .ensures) (c .before .before .before .before .before .before .before .if1 .left))
+    (passed (c .before .before .before .before .before .before .ids-differ .ensures) (c .before .before .before .before .before .if2 .left))
+    (passed (c .before .before .before .before .keys-are-within .ensures) (c .before .before .before .if3 .left))
+    (passed (c .before .before .all-within .ensures) (c .before .if4 .left)) (c .span-is-short .ensures)
 
 pub places-are-sound-spec : {M : Type 1} → statement M
 places-are-sound-spec =
@@ -42,5 +49,7 @@ places-are-sound-spec =
     returns-2
     keys-are-within-requires
     returns-3
+    all-within-requires
+    returns-4
     span-is-short-requires
-    returns-4)
+    returns-5)

@@ -1,0 +1,97 @@
+-- Places in order by one number. In a sound queue a bucket has one key, so its entries stand by release, then id: by their ranks. The laws of the
+-- links need no more of an entry than that.
+use mathlib.Core.Path.{_≡_}
+use mathlib.Core.Logic.{ite, inl, inr, if-pos, if-neg}
+use Prim.Native.Nat.{ℕ, _+_, _-_, _*_, _≤_, _<_}
+use native.Mathlib.Nat.{lt-irrefl}
+use native.Mathlib.Decide.{decLe, decLt}
+use native.Mathlib.Omega.{arith}
+use Rattle.basics.specs.Lexicographic.{Then}
+use Rattle.queue.specs.Layout.{id-at, release-at, IsNode, bucket-of-key, bucket-of}
+use Rattle.queue.specs.declared.Queue.{Queue}
+
+-- The rank of a release and an id, which is below 32,768; a free place has 0.
+pub rank : ℕ → ℕ → ℕ
+rank release id = ite (decLe 1 id) (release * 32768 + id) 0
+
+abbrev pub rank-at : Queue → ℕ → ℕ
+rank-at q i = rank (release-at q i) (id-at q i)
+
+-- Ranks rise along a list from its head, which counts as 0 where the list leaves it and as more than any rank where the list comes back to it.
+unfoldable pub low : (ranks : ℕ → ℕ) → ℕ → ℕ
+low ranks x = ite (decLt x 64) (ranks x) 0
+
+unfoldable pub high : (ranks : ℕ → ℕ) → ℕ → ℕ
+high ranks x = ite (decLt x 64) (ranks x) 65_536_000_032_768
+
+-- A node that is linked, its order told by ranks.
+pub record RankLinked (ranks keys next prev : ℕ → ℕ) (x : ℕ) : Type 0 where
+  pub next-is-node : IsNode ranks (next x)
+  pub next-in-bucket : bucket-of keys (next x) ≡ bucket-of keys x
+  pub next-returns : prev (next x) ≡ x
+  pub in-order : low ranks x < high ranks (next x)
+  pub prev-is-node : IsNode ranks (prev x)
+  pub prev-returns : next (prev x) ≡ x
+
+abbrev pub AllRankLinked : (ranks keys next prev : ℕ → ℕ) → Type 0
+AllRankLinked ranks keys next prev = (x : ℕ) → IsNode ranks x → RankLinked ranks keys next prev x
+
+-- a place that holds an id has a rank
+pub rank-some : (release id : ℕ) → 1 ≤ id → rank release id ≡ release * 32768 + id
+unfolding rank
+rank-some release id some = if-pos (decLe 1 id) some (release * 32768 + id) 0
+
+pub rank-none : (release id : ℕ) → id ≡ 0 → rank release id ≡ 0
+unfolding rank
+rank-none release id none = if-neg (decLe 1 id) (λ l. omega arith) (release * 32768 + id) 0
+
+pub rank-holds : (release id : ℕ) → 1 ≤ id → 1 ≤ rank release id
+rank-holds release id some = omega (arith, rank-some release id some)
+
+pub holds-rank : (release id : ℕ) → 1 ≤ rank release id → 1 ≤ id
+holds-rank release id some = go (decLe 1 id)
+  where
+    go : Dec (1 ≤ id) → 1 ≤ id
+    go (yes holds) = holds
+    go (no free) = absurd (lt-irrefl 0 (omega (arith, rank-none release id (omega arith))))
+
+-- ranks of ids below 32,768 are in order by release, then id, and tell the ids apart
+pub rank-id : (r s i j : ℕ) → 1 ≤ i → i ≤ 32767 → 1 ≤ j → j ≤ 32767 → rank r i ≡ rank s j → i ≡ j
+rank-id r s i j some-i small-i some-j small-j same = omega (arith, rank-some r i some-i, rank-some s j some-j)
+
+pub rank-less : (r s i j : ℕ) → 1 ≤ i → i ≤ 32767 → 1 ≤ j → Then r s (i < j) → rank r i < rank s j
+rank-less r s i j some-i small-i some-j (inl less) = omega (arith, rank-some r i some-i, rank-some s j some-j)
+rank-less r s i j some-i small-i some-j (inr w) = omega (arith, rank-some r i some-i, rank-some s j some-j, w .0, w .1)
+
+pub less-rank : (r s i j : ℕ) → 1 ≤ i → 1 ≤ j → j ≤ 32767 → rank r i < rank s j → Then r s (i < j)
+less-rank r s i j some-i some-j small-j less = go (decLt r s)
+  where
+    go : Dec (r < s) → Then r s (i < j)
+    go (yes first) = inl first
+    go (no not-less) = let e : r ≡ s = omega (arith, rank-some r i some-i, rank-some s j some-j, less) in
+        inr (e, omega (arith, rank-some r i some-i, rank-some s j some-j, less, e))
+
+-- low and high of an entry are its rank; a head is below and above every rank
+pub low-place : (ranks : ℕ → ℕ) (x : ℕ) → x < 64 → low ranks x ≡ ranks x
+unfolding low
+low-place ranks x inside = if-pos (decLt x 64) inside (ranks x) 0
+
+pub low-head : (ranks : ℕ → ℕ) (x : ℕ) → 64 ≤ x → low ranks x ≡ 0
+unfolding low
+low-head ranks x head = if-neg (decLt x 64) (λ l. omega arith) (ranks x) 0
+
+pub high-place : (ranks : ℕ → ℕ) (x : ℕ) → x < 64 → high ranks x ≡ ranks x
+unfolding high
+high-place ranks x inside = if-pos (decLt x 64) inside (ranks x) 65_536_000_032_768
+
+pub high-head : (ranks : ℕ → ℕ) (x : ℕ) → 64 ≤ x → high ranks x ≡ 65_536_000_032_768
+unfolding high
+high-head ranks x head = if-neg (decLt x 64) (λ l. omega arith) (ranks x) 65_536_000_032_768
+
+pub bucket-place : (keys : ℕ → ℕ) (x : ℕ) → x < 64 → bucket-of keys x ≡ bucket-of-key (keys x)
+unfolding bucket-of
+bucket-place keys x inside = if-pos (decLt x 64) inside (bucket-of-key (keys x)) (x - 64)
+
+pub bucket-head : (keys : ℕ → ℕ) (x : ℕ) → 64 ≤ x → bucket-of keys x ≡ x - 64
+unfolding bucket-of
+bucket-head keys x head = if-neg (decLt x 64) (λ l. omega arith) (bucket-of-key (keys x)) (x - 64)

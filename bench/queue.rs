@@ -19,13 +19,14 @@ mod proved {
     }
 }
 
-// A plain queue of the same layout: places 0 to 63, then the heads of 480 buckets, each a doubly linked list ordered by id.
+// A plain queue of the same layout: places 0 to 63, then the heads of 480 buckets, each a doubly linked list ordered by release, then id.
 mod plain {
     pub struct Queue {
         ids: [u16; 64],
         keys: [u32; 64],
         next: [u16; 544],
         prev: [u16; 544],
+        releases: [u32; 64],
     }
 
     // Reads and writes with no test of the index, as in C.
@@ -44,7 +45,7 @@ mod plain {
     impl Queue {
         pub fn empty() -> Queue {
             let alone = std::array::from_fn(|x| x as u16);
-            Queue { ids: [0; 64], keys: [0; 64], next: alone, prev: alone }
+            Queue { ids: [0; 64], keys: [0; 64], next: alone, prev: alone, releases: [0; 64] }
         }
 
         // The place of an id, which must be there; of id 0, the first free place.
@@ -56,10 +57,16 @@ mod plain {
             x
         }
 
-        // Links a place into its bucket before the first larger id.
+        // Release and id of a place in one number.
+        fn rank(&self, x: usize) -> u64 {
+            u64::from(get(&self.releases, x)) << 16 | u64::from(get(&self.ids, x))
+        }
+
+        // Links a place into its bucket before the first later release, or larger id of the same release.
         fn link(&mut self, x: usize) {
+            let own = self.rank(x);
             let mut n = get(&self.next, head_of(get(&self.keys, x))) as usize;
-            while n < 64 && get(&self.ids, n) < get(&self.ids, x) {
+            while n < 64 && self.rank(n) < own {
                 n = get(&self.next, n) as usize;
             }
             let p = get(&self.prev, n);
@@ -76,10 +83,11 @@ mod plain {
             set(&mut self.prev, n as usize, p);
         }
 
-        pub fn insert(&mut self, id: u32, key: u32) {
+        pub fn insert(&mut self, id: u32, key: u32, release: u32) {
             let x = self.place_of(0);
             set(&mut self.ids, x, id as u16);
             set(&mut self.keys, x, key);
+            set(&mut self.releases, x, release);
             self.link(x);
         }
 
@@ -92,8 +100,9 @@ mod plain {
         pub fn move_by(&mut self, id: u32, amount: u32) {
             let x = self.place_of(id);
             self.unlink(x);
-            let key = get(&self.keys, x) + amount;
+            let (key, release) = (get(&self.keys, x) + amount, get(&self.releases, x) + amount);
             set(&mut self.keys, x, key);
+            set(&mut self.releases, x, release);
             self.link(x);
         }
 
@@ -103,21 +112,21 @@ mod plain {
             places.map(|(id, key)| if *id == 0 { u32::MAX } else { *key }).fold(u32::MAX, u32::min)
         }
 
-        // The first entry after a pair of key and id, or key 0 and id 0.
-        pub fn next(&self, key: u32, id: u32) -> (u32, u32) {
+        // The first entry after a key, a release and an id, or zeros.
+        pub fn next(&self, key: u32, release: u32, id: u32) -> (u32, u32, u32) {
             let mut head = head_of(key.max(self.least_key()));
             for _ in 0..480 {
                 let mut n = get(&self.next, head) as usize;
                 while n < 64 {
-                    let there = (get(&self.keys, n), get(&self.ids, n) as u32);
-                    if there > (key, id) {
+                    let there = (get(&self.keys, n), get(&self.releases, n), get(&self.ids, n) as u32);
+                    if there > (key, release, id) {
                         return there;
                     }
                     n = get(&self.next, n) as usize;
                 }
                 head = if head == 543 { 64 } else { head + 1 };
             }
-            (0, 0)
+            (0, 0, 0)
         }
     }
 }
@@ -133,16 +142,16 @@ mod runs {
     fn filled(n: u32) -> Queue {
         let mut q = Queue::empty();
         for id in 1..=n {
-            q.insert(id, 1000 + id % 32 * 13);
+            q.insert(id, 1000 + id % 32 * 13, id % 37);
         }
         q
     }
 
     fn walk_sum(q: &Queue, turns: u32) -> u32 {
-        let (mut sum, mut key, mut id) = (0, 0, 0);
+        let (mut sum, mut key, mut release, mut id) = (0, 0, 0, 0);
         for _ in 0..turns {
-            (key, id) = q.next(key, id);
-            sum = mix(mix(sum, key), id);
+            (key, release, id) = q.next(key, release, id);
+            sum = mix(mix(mix(sum, key), release), id);
         }
         sum
     }
@@ -155,7 +164,7 @@ mod runs {
     pub fn insert_delete(turns: u32) -> u32 {
         let mut q = filled(63);
         for i in 0..turns {
-            q.insert(64, 1000 + i % 400);
+            q.insert(64, 1000 + i % 400, i % 37);
             q.delete(64);
         }
         mix(0, walk_sum(&q, 64))

@@ -66,10 +66,11 @@ impl Host for Analytic {
                 start = start.min(t - h.div_ceil(self.slots));
             }
         }
-        let mut riding: Vec<(u32, u32)> = self.streams.iter().filter(|s| s.release <= start).map(|s| (s.release + s.deadline, s.id)).collect();
+        let released = self.streams.iter().filter(|s| s.release <= start);
+        let mut riding: Vec<(u32, u32, u32)> = released.map(|s| (s.release + s.deadline, s.release, s.id)).collect();
         riding.sort_unstable();
         riding.truncate(self.slots as usize);
-        let ids: Vec<u16> = riding.iter().map(|r| r.1 as u16).collect();
+        let ids: Vec<u16> = riding.iter().map(|r| r.2 as u16).collect();
         for s in &mut self.streams {
             if ids.contains(&(s.id as u16)) {
                 s.release += s.period;

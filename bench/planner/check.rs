@@ -1,4 +1,5 @@
 // Random calls on random planners, and on planners with a damage: `limit` must answer as the proved call does and leave the same bytes.
+// Many streams are due together, released in another order than their ids, since their order shows nothing where all due times differ.
 use super::limit::Limit;
 use super::proved::Planner;
 use super::tables::Random;
@@ -7,11 +8,58 @@ use super::{Host, Offer};
 const PLANNERS: u32 = 2000;
 const CALLS: u32 = 150;
 
+// A place that holds an entry, or one that is free, from x on; x if there is none.
+fn place_from(p: &Planner, x: usize, held: bool) -> usize {
+    (x..x + 64).map(|y| y % 64).find(|y| (p.ids[*y] != 0) == held).unwrap_or(x)
+}
+
+// The releases alone: of a held place, of two of them, of a free place, of two entries that follow each other in a list.
+fn damage_releases(p: &mut Planner, random: &mut Random) {
+    let (x, y) = (random.below(64) as usize, random.below(64) as usize);
+    let (held, other, free) = (place_from(p, x, true), place_from(p, y, true), place_from(p, x, false));
+    match random.below(5) {
+        0 => p.releases[held] = p.releases[held].wrapping_add(1),
+        1 => p.releases[held] = p.releases[held].wrapping_sub(1),
+        2 => p.releases.swap(held, other),
+        3 => p.releases[free] = random.below(1 << 31),
+        _ => p.releases.swap(held, p.next[held] as usize % 64),
+    }
+}
+
+// Links between nodes below 544, whatever stood there.
+fn link(p: &mut Planner, nodes: &[usize]) {
+    for pair in nodes.windows(2) {
+        let (x, n) = (pair[0] % 544, pair[1] % 544);
+        (p.next[x], p.prev[n]) = (n as u16, x as u16);
+    }
+}
+
+// The order of a list alone, all links matched: two entries exchanged; a free place linked in; the rests of two lists exchanged.
+fn damage_lists(p: &mut Planner, random: &mut Random) {
+    let (x, y) = (place_from(p, random.below(64) as usize, true), place_from(p, random.below(64) as usize, true));
+    let (before, after, after_y) = (p.prev[x] as usize, p.next[x] as usize, p.next[y] as usize);
+    match random.below(3) {
+        0 => {
+            let after_both = p.next[after % 544] as usize;
+            link(p, &[before, after, x, after_both]);
+        }
+        1 => {
+            let free = place_from(p, x, false);
+            (p.keys[free], p.releases[free]) = (p.keys[x], p.releases[x]);
+            link(p, &[x, free, after]);
+        }
+        _ => {
+            link(p, &[x, after_y]);
+            link(p, &[y, after]);
+        }
+    }
+}
+
 fn damage(p: &mut Planner, random: &mut Random) {
     let any = |random: &mut Random| random.below(1 << 31) * 2 + random.below(2);
     let (x, y, node) = (random.below(64) as usize, random.below(64) as usize, random.below(544) as usize);
     let used = random.below(p.count.clamp(1, 64) as u32) as usize;
-    match random.below(24) {
+    match random.below(29) {
         0 => p.next[node] = random.below(544) as u16,
         1 => p.prev[node] = random.below(544) as u16,
         2 => p.next[x] = random.below(700) as u16,
@@ -34,12 +82,8 @@ fn damage(p: &mut Planner, random: &mut Random) {
         19 => p.gap = [0, 255, 256, any(random)][random.below(4) as usize],
         20 => p.last = [0, p.last.wrapping_sub(1), p.last.wrapping_add(1), 1_000_000_000, 1_000_000_001, any(random)][random.below(6) as usize],
         21 => (p.next[x], p.prev[x]) = (x as u16, x as u16),
-        22 => {
-            // two entries of a bucket in the wrong order, all links matched; or one entry left out
-            let (a, b) = (x, p.next[x] as usize % 544);
-            let (before, after) = (p.prev[a] as usize % 544, p.next[b] as usize % 544);
-            (p.next[before], p.prev[b], p.next[b], p.prev[a], p.next[a], p.prev[after]) = (b as u16, before as u16, a as u16, b as u16, after as u16, a as u16);
-        }
+        22 | 23 => damage_lists(p, random),
+        24..=27 => damage_releases(p, random),
         _ => {
             let i = random.below(size_of::<Planner>() as u32) as usize;
             let bytes = (p as *mut Planner).cast::<u8>();
@@ -48,81 +92,136 @@ fn damage(p: &mut Planner, random: &mut Random) {
     }
 }
 
-// Makes both the same call; whether it was refused.
-fn both(p: &mut Planner, limit: &mut Limit, random: &mut Random) -> u32 {
+// An offer that is due with a stream held, or half a period from now, at any start before that.
+fn due_with_others(p: &Planner, id: u32, period: u32, random: &mut Random) -> Offer {
+    let now = p.last.wrapping_add(1);
+    let s = p.streams[random.below(64) as usize];
+    let due = if s.id == 0 { now.wrapping_add(period / 2) } else { s.release.wrapping_add(s.deadline) };
+    let deadline = 1 + random.below(period.min(due.wrapping_sub(now)).max(1));
+    Offer { id, start: due.wrapping_sub(deadline), period, deadline }
+}
+
+// An offer that may be refused for any reason but 8.
+fn offered(p: &Planner, held_id: u32, random: &mut Random) -> Offer {
+    let most = if random.below(20) == 0 { 40_000 } else { 300 };
+    let id = if random.below(9) == 0 { held_id } else { random.below(most) };
+    let frames = [5040, 2520, 240, 12, 1];
+    let frame = if p.frame == 0 || p.frame > 5040 { frames[random.below(5) as usize] } else { p.frame };
+    let divisors: Vec<u32> = (1..=240).filter(|d| frame % d == 0).collect();
+    let longest = divisors[divisors.len() - 1];
+    let period = if random.below(30) == 0 { random.below(300) } else { divisors[random.below(divisors.len() as u32) as usize] };
+    let deadline = if random.below(2) == 0 { period } else { random.below(period + 2) };
+    // some are due at once and then seldom, which the demand rule allows and the start rule may not
+    match random.below(6) {
+        0 | 1 => Offer { id, start: p.last.wrapping_add(1), period: longest, deadline: 1 + random.below(2) },
+        2 | 3 => due_with_others(p, id, longest, random),
+        _ => Offer { id, start: p.last.wrapping_add(random.below(245)), period, deadline },
+    }
+}
+
+fn add_both(p: &mut Planner, limit: &mut Limit, offer: Offer) -> u32 {
+    let answer = p.add(offer);
+    assert_eq!(answer, limit.add(offer), "add");
+    assert!(p.bytes() == limit.0.bytes(), "bytes after an add");
+    answer
+}
+
+fn remove_both(p: &mut Planner, limit: &mut Limit, id: u32) -> u32 {
+    let answer = p.remove(id);
+    assert_eq!(answer, limit.remove(id), "remove");
+    assert!(p.bytes() == limit.0.bytes(), "bytes after a remove");
+    answer
+}
+
+// The answer, and 1 where ids alone would have put the slots in another order.
+fn round_both(p: &mut Planner, limit: &mut Limit, length: usize) -> (u32, u32) {
+    let (mut one, mut other) = ([7u16; 64], [7u16; 64]);
+    let before = *p;
+    let held = p.hold(&mut one[..length]);
+    assert_eq!(held, limit.hold(&mut other[..length]), "round");
+    assert_eq!(one, other, "ids");
+    assert!(p.bytes() == limit.0.bytes(), "bytes after a round");
+    if held.answer != 0 {
+        return (held.answer, 0);
+    }
+    let streams = before.streams();
+    let mut by_id: Vec<(u32, u16)> = streams.iter().filter(|s| s[3] <= held.start).map(|s| (s[3] + s[2], s[0] as u16)).collect();
+    by_id.sort_unstable();
+    (0, u32::from(by_id.iter().zip(&one[..held.n as usize]).any(|(there, id)| there.1 != *id)))
+}
+
+// Makes both the same call.
+fn both(p: &mut Planner, limit: &mut Limit, random: &mut Random) -> (u32, u32) {
     let held_id = p.streams[random.below(p.count.clamp(1, 64) as u32) as usize % 64].id;
-    let answer = match random.below(6) {
-        0 | 1 => {
-            let most = if random.below(20) == 0 { 40_000 } else { 300 };
-            let id = if random.below(9) == 0 { held_id } else { random.below(most) };
-            let frames = [5040, 2520, 240, 12, 1];
-            let frame = if p.frame == 0 || p.frame > 5040 { frames[random.below(5) as usize] } else { p.frame };
-            let divisors: Vec<u32> = (1..=240).filter(|d| frame % d == 0).collect();
-            let period = if random.below(30) == 0 { random.below(300) } else { divisors[random.below(divisors.len() as u32) as usize] };
-            let deadline = if random.below(2) == 0 { period } else { random.below(period + 2) };
-            let start = p.last.wrapping_add(random.below(245));
-            // one in three is due at once and then seldom, which the demand rule allows and the start rule may not
-            let offer = match random.below(3) {
-                0 => Offer { id, start: p.last.wrapping_add(1), period: divisors[divisors.len() - 1], deadline: 1 + random.below(2) },
-                _ => Offer { id, start, period, deadline },
-            };
-            let answer = p.add(offer);
-            assert_eq!(answer, limit.add(offer), "add");
-            answer
-        }
+    match random.below(6) {
+        0 | 1 => (add_both(p, limit, offered(p, held_id, random)), 0),
         2 if random.below(3) == 0 => {
             let id = if random.below(3) == 0 { random.below(300) } else { held_id };
-            let answer = p.remove(id);
-            assert_eq!(answer, limit.remove(id), "remove");
-            answer
+            (remove_both(p, limit, id), 0)
         }
         _ => {
             let length = if random.below(10) == 0 { random.below(64) as usize } else { 64 };
-            let (mut one, mut other) = ([7u16; 64], [7u16; 64]);
-            let held = p.hold(&mut one[..length]);
-            assert_eq!(held, limit.hold(&mut other[..length]), "round");
-            assert_eq!(one, other, "ids");
-            held.answer
+            round_both(p, limit, length)
         }
-    };
-    assert!(p.bytes() == limit.0.bytes(), "bytes");
-    answer
+    }
+}
+
+// How often each answer was given, and how many rounds ids alone would have put in another order.
+#[derive(Default)]
+struct Seen {
+    answers: [u32; 18],
+    ties: u32,
+}
+
+impl Seen {
+    fn note(&mut self, (answer, ties): (u32, u32)) {
+        self.answers[answer as usize] += 1;
+        self.ties += ties;
+    }
+
+    fn print(&self, name: &str) {
+        let given: Vec<String> = self.answers.iter().enumerate().filter(|a| *a.1 > 0).map(|(a, n)| format!("{a}: {n}")).collect();
+        println!("{name:<10} {}; {} rounds that ids alone would order otherwise", given.join(", "), self.ties);
+    }
+}
+
+// Streams of one period and deadline at any start, or all due with others; most are taken in.
+fn fill(p: &mut Planner, limit: &mut Limit, together: bool, random: &mut Random, seen: &mut Seen) {
+    let period = p.frame.min(240);
+    for _ in 0..80 {
+        let id = 1 + random.below(32767);
+        let offer = match together {
+            true => due_with_others(p, id, period, random),
+            false => Offer { id, start: p.last + 1 + random.below(240), period, deadline: period },
+        };
+        seen.note((add_both(p, limit, offer), 0));
+    }
 }
 
 pub fn check() {
     let mut random = Random(5);
-    // how often each answer was given: of sound planners, and of damaged ones
-    let mut answers = [[0u32; 18]; 2];
+    let (mut undamaged, mut damaged) = (Seen::default(), Seen::default());
     for k in 0..PLANNERS {
         let frame = [5040, 2520, 240, 12, 1][random.below(5) as usize];
         let last = if k % 20 == 0 { 999_999_000 + random.below(1001) } else { random.below(100_000) };
         let slots = 1 + random.below(if k % 2 == 0 { 4 } else { 64 });
         let mut p = Planner::open_at(slots, frame, 1 + random.below(255), last);
         let mut limit = Limit(p);
-        let mut filling = 0;
-        for _ in 0..CALLS {
-            // every other planner is filled first
-            if k % 2 == 1 && filling < 80 {
-                filling += 1;
-                let offer = Offer { id: 1 + random.below(32767), start: p.last + 1 + random.below(240), period: frame.min(240), deadline: frame.min(240) };
-                let answer = p.add(offer);
-                assert_eq!(answer, limit.add(offer), "add");
-                assert!(p.bytes() == limit.0.bytes(), "bytes");
-                answers[0][answer as usize] += 1;
-                continue;
-            }
-            answers[0][both(&mut p, &mut limit, &mut random) as usize] += 1;
+        let filled = k % 2 == 1;
+        if filled {
+            fill(&mut p, &mut limit, k % 4 == 1, &mut random, &mut undamaged);
+        }
+        for _ in 0..if filled { CALLS - 80 } else { CALLS } {
+            undamaged.note(both(&mut p, &mut limit, &mut random));
             for _ in 0..4 {
                 let mut q = p;
                 damage(&mut q, &mut random);
                 let mut limit = Limit(q);
-                answers[1][both(&mut q, &mut limit, &mut random) as usize] += 1;
+                damaged.note(both(&mut q, &mut limit, &mut random));
             }
         }
     }
     println!("limit answers as the proved calls and leaves the same bytes");
-    for (name, of) in ["undamaged", "damaged"].iter().zip(answers) {
-        let given: Vec<String> = of.iter().enumerate().filter(|a| *a.1 > 0).map(|(a, n)| format!("{a}: {n}")).collect();
-        println!("{name:<10} {}", given.join(", "));
-    }
+    undamaged.print("undamaged");
+    damaged.print("damaged");
 }

@@ -101,12 +101,13 @@ impl Fast {
         p
     }
 
-    // In order of ids within the bucket, so that ties go as in document 01.
-    fn file_by_id(&mut self, x: usize, bucket: usize) {
-        let id = get(&self.ids, x);
+    // In order of releases, then ids, within the bucket, so that ties go as in 02 (ii).
+    fn file_in_order(&mut self, x: usize, bucket: usize) {
+        let rank = |x: usize| u64::from(get(&self.releases, x)) << 16 | u64::from(get(&self.ids, x));
+        let own = rank(x);
         let mut before = NONE;
         let mut n = get(&self.queue.heads, bucket);
-        while n != NONE && get(&self.ids, n as usize) < id {
+        while n != NONE && rank(n as usize) < own {
             before = n;
             n = get(&self.queue.next, n as usize);
         }
@@ -144,7 +145,7 @@ impl Fast {
             self.low = due;
             self.bucket = bucket;
         }
-        self.file_by_id(x, bucket);
+        self.file_in_order(x, bucket);
         x
     }
 
@@ -271,7 +272,7 @@ impl Host for Fast {
                     let period = get(&self.periods, place);
                     set(&mut self.releases, place, release + u32::from(period));
                     self.unlink(place, before, bucket);
-                    self.file_by_id(place, bucket_after(bucket, period as usize));
+                    self.file_in_order(place, bucket_after(bucket, period as usize));
                 } else {
                     before = x;
                 }

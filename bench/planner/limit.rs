@@ -1,7 +1,8 @@
 // What a proved call is held to: the same full test of the same bytes, the same answers, the same bytes left, by hand in unchecked Rust.
 // Every condition of a sound planner is tested, on any bytes whatever:
-//   - the streams are met in order of ids, and each must be the next entry in its bucket's list, under its due time, linked back; then each
-//     list must end there; so ids, keys, order, buckets and links are compared in one go;
+//   - each stream is looked for in the list of its due time's bucket, and must stand there under its due time and release, linked back to the
+//     head or to an entry that comes before it; as many lists end as begin, so ids, keys, releases, order, buckets and links are compared in
+//     one go;
 //   - as many places hold an entry as there are streams, so no other place does;
 //   - all other heads are their own neighbours both ways, counted eight at a time;
 //   - a table that keeps both rules with one stream more keeps them without it, so that an add that is accepted tests them once.
@@ -180,120 +181,85 @@ unsafe fn sum_of(n: __m128i) -> usize {
     _mm_cvtsi128_si32(_mm_add_epi32(pairs, _mm_srli_si128(pairs, 4))) as usize
 }
 
-// The rows whose packets are released by `start`, less now.
+// The due times, less now, of the packets released by `start`, less now, as bits.
 #[inline(always)]
-unsafe fn released(c: &Columns, count: usize, start: i16) -> u64 {
-    let mut rows = 0;
+unsafe fn due_times(c: &Columns, count: usize, start: i16) -> [u64; 8] {
+    let mut times = [0; 8];
     let mut i = 0;
     while i < count {
         let late = _mm_cmpgt_epi16(_mm_load_si128(c.releases.as_ptr().add(i).cast()), _mm_set1_epi16(start));
-        rows |= u64::from(!_mm_movemask_epi8(_mm_packs_epi16(late, late)) as u8) << i;
+        let mut left = !_mm_movemask_epi8(_mm_packs_epi16(late, late)) & 0xff;
+        while left != 0 {
+            let due = get(&c.dues, i + left.trailing_zeros() as usize) as usize;
+            left &= left - 1;
+            *times.get_unchecked_mut(due / 64) |= 1 << (due % 64);
+        }
         i += 8;
     }
-    rows
+    times
 }
 
-// Whether the queue's lists hold just the streams, in order, with all links right; `places` gets the place of each row.
+// The head of the bucket of a due time less now; `base` is now modulo 480, and no due time is 480 or more.
+#[inline(always)]
+fn head_of(base: usize, due: usize) -> usize {
+    let past = base + due;
+    64 + if past >= BUCKETS { past - BUCKETS } else { past }
+}
+
+// Release and id of an entry in one number, in the order of a bucket.
+fn rank(release: u32, id: u16) -> u64 {
+    u64::from(release) << 16 | u64::from(id)
+}
+
+// The place of an id further on in a list than place x, and the place before it, which must hold an entry that comes before.
+#[inline(always)]
+fn further(p: &Planner, mut x: usize, id: u16, steps: &mut u32) -> Option<(usize, usize)> {
+    loop {
+        let at = x;
+        x = get(&p.next, at) as usize;
+        if x >= 64 || *steps == 0 {
+            return None;
+        }
+        *steps -= 1;
+        if get(&p.ids, x) == id {
+            let before = get(&p.ids, at);
+            let in_order = before > 0 && rank(get(&p.releases, at), before) < rank(get(&p.releases, x), id);
+            return in_order.then_some((at, x));
+        }
+    }
+}
+
+// Whether the queue's lists hold just the streams, in order, with all links right; `rows` gets the row of each place.
+// No two entries follow the same node: where as many lists end as begin, each entry is followed by another of its list or by its head.
 #[inline(never)]
-fn is_filed(p: &Planner, c: &Columns, places: &mut [u8; 64]) -> bool {
-    // the node that each bucket's list has been followed to, and the head of each row's bucket
-    let mut ends = HEADS.0;
-    let mut buckets: [u16; 64] = scratch();
+fn is_filed(p: &Planner, c: &Columns, rows: &mut [u8; 64]) -> bool {
     let now = p.last + 1;
     let base = now as usize % BUCKETS;
-    let mut lists = 0;
+    // a sound queue needs no more in all, even with 64 streams due together; lists of any links may have no end
+    let mut steps = 64 * 63 / 2;
+    let (mut begun, mut ended) = (0, 0);
     for row in 0..p.count {
         let due = get(&c.dues, row) as usize;
-        let past = base + due;
-        let bucket = if past >= BUCKETS { past - BUCKETS } else { past };
-        let at = get(&ends, bucket);
-        let x = get(&p.next, at as usize);
-        let place = x as usize;
-        if place >= 64 || get(&p.ids, place) != get(&c.ids, row) || get(&p.keys, place) != now + due as u32 || get(&p.prev, place) != at {
+        let head = head_of(base, due);
+        let id = get(&c.ids, row);
+        let (mut at, mut x) = (head, get(&p.next, head) as usize);
+        if x >= 64 {
             return false;
         }
-        lists += usize::from(at >= 64);
-        set(&mut ends, bucket, x);
-        set(&mut buckets, row, bucket as u16);
-        set(places, row, x as u8);
-    }
-    for row in 0..p.count {
-        let bucket = get(&buckets, row) as usize;
-        let end = get(&ends, bucket);
-        if get(&p.next, end as usize) as usize != 64 + bucket || get(&p.prev, 64 + bucket) != end {
+        if get(&p.ids, x) == id {
+            begun += 1;
+        } else {
+            let Some(found) = further(p, x, id, &mut steps) else { return false };
+            (at, x) = found;
+        }
+        let stream = unsafe { p.streams.get_unchecked(row) };
+        if get(&p.keys, x) != now + due as u32 || get(&p.releases, x) != stream.release || get(&p.prev, x) as usize != at {
             return false;
         }
+        ended += usize::from((get(&p.next, x) as usize == head) & (get(&p.prev, head) as usize == x));
+        set(rows, x, row as u8);
     }
-    unsafe { places_filled(p) == p.count && heads_alone(p) == BUCKETS - lists }
-}
-
-// The rows of a round, by due time and id, as many as there are slots at most; how many.
-#[inline(always)]
-unsafe fn chosen(c: &Columns, count: usize, slots: usize, start: i16, rows: &mut [u8; 64]) -> usize {
-    let left = released(c, count, start);
-    let n = chosen_of_few(c, left, rows);
-    if n <= 8 {
-        n.min(slots)
-    } else {
-        chosen_of_many(c, left, slots, rows)
-    }
-}
-
-// Of eight rows at most, or 9: due time and row are one number, and a row's place is how many of the numbers are less.
-#[inline(always)]
-unsafe fn chosen_of_few(c: &Columns, mut left: u64, rows: &mut [u8; 64]) -> usize {
-    let mut numbers = [i16::MAX; 8];
-    let mut n = 0;
-    while left != 0 {
-        if n == 8 {
-            return 9;
-        }
-        let row = left.trailing_zeros() as usize;
-        left &= left - 1;
-        set(&mut numbers, n, get(&c.dues, row) * 64 + row as i16);
-        n += 1;
-    }
-    let all = _mm_loadu_si128(numbers.as_ptr().cast());
-    for own in &numbers[..n] {
-        set(rows, sum_of(_mm_srli_epi16(_mm_cmpgt_epi16(_mm_set1_epi16(*own), all), 15)), *own as u8 & 63);
-    }
-    n
-}
-
-// A list for each due time, by id; the lists that are not empty are found eight at a time.
-#[inline(never)]
-fn chosen_of_many(c: &Columns, mut left: u64, slots: usize, rows: &mut [u8; 64]) -> usize {
-    const NONE: u8 = 255;
-    let mut heads = [u64::MAX; BUCKETS / 8];
-    let mut next: [u8; 64] = scratch();
-    let bytes: &mut [u8; BUCKETS] = unsafe { &mut *heads.as_mut_ptr().cast() };
-    let total = left.count_ones() as usize;
-    while left != 0 {
-        let row = 63 - left.leading_zeros() as usize;
-        left ^= 1 << row;
-        let due = get(&c.dues, row) as usize;
-        set(&mut next, row, get(bytes, due));
-        set(bytes, due, row as u8);
-    }
-    let wanted = slots.min(total);
-    let (mut n, mut word) = (0, 0);
-    loop {
-        let mut filled = !get(&heads, word) & 0x8080_8080_8080_8080;
-        while filled != 0 {
-            let due = 8 * word + filled.trailing_zeros() as usize / 8;
-            filled &= filled - 1;
-            let mut row = get(unsafe { &*heads.as_ptr().cast::<[u8; BUCKETS]>() }, due);
-            while row != NONE {
-                set(rows, n, row);
-                n += 1;
-                if n == wanted {
-                    return n;
-                }
-                row = get(&next, row as usize);
-            }
-        }
-        word += 1;
-    }
+    ended == begun && unsafe { places_filled(p) == p.count && heads_alone(p) == BUCKETS - begun }
 }
 
 // The sum over the streams of how often a period fits into t.
@@ -424,11 +390,55 @@ fn unlink(p: &mut Planner, x: usize) {
     set(&mut p.prev, after as usize, before);
 }
 
-// The node before which an id belongs in the list of a head.
-fn position(p: &Planner, head: usize, id: u16) -> usize {
+// The node before which an entry belongs in the list of a head.
+fn position(p: &Planner, head: usize, release: u32, id: u16) -> usize {
+    let own = rank(release, id);
     let mut n = get(&p.next, head) as usize;
-    while n < 64 && get(&p.ids, n) < id {
+    while n < 64 && rank(get(&p.releases, n), get(&p.ids, n)) < own {
         n = get(&p.next, n) as usize;
+    }
+    n
+}
+
+// The packet at place x goes, and its stream's next one is filed there.
+#[inline(always)]
+fn serve(p: &mut Planner, row: usize, x: usize) {
+    let stream = unsafe { p.streams.get_unchecked_mut(row) };
+    stream.release += stream.period;
+    let (release, key) = (stream.release, stream.release + stream.deadline);
+    set(&mut p.keys, x, key);
+    set(&mut p.releases, x, release);
+    unlink(p, x);
+    let n = position(p, 64 + key as usize % BUCKETS, release, get(&p.ids, x));
+    link_before(p, x, n);
+}
+
+// Serves what is released by `start`, by due time and in each list's order, as many as there are slots at most; how many. A packet filed
+// anew is released no earlier than the one served was due, so after the start.
+#[inline(always)]
+fn serve_all(p: &mut Planner, rows: &[u8; 64], times: [u64; 8], start: u32, buffer: &mut [u16]) -> usize {
+    let base = (p.last + 1) as usize % BUCKETS;
+    let slots = p.slots as usize;
+    let mut n = 0;
+    for (word, times) in times.into_iter().enumerate() {
+        let mut left = times;
+        while left != 0 {
+            let due = 64 * word + left.trailing_zeros() as usize;
+            left &= left - 1;
+            let mut x = get(&p.next, head_of(base, due)) as usize;
+            while x < 64 {
+                let on = get(&p.next, x) as usize;
+                if get(&p.releases, x) <= start {
+                    set(buffer, n, get(&p.ids, x));
+                    serve(p, get(rows, x) as usize, x);
+                    n += 1;
+                    if n == slots {
+                        return n;
+                    }
+                }
+                x = on;
+            }
+        }
     }
     n
 }
@@ -449,33 +459,19 @@ impl Limit {
         let mut c: Columns = scratch();
         let Some(first) = in_range(p, &mut c) else { return refused(5) };
         let Some(start) = lazy_start(&p.streams, p.count, p.slots, p.frame, p.gap, &c, first) else { return refused(5) };
-        let mut places: [u8; 64] = scratch();
-        if !is_filed(p, &c, &mut places) {
+        let mut rows: [u8; 64] = scratch();
+        if !is_filed(p, &c, &mut rows) {
             return refused(5);
         }
-        let slots = p.slots as usize;
-        let mut rows: [u8; 64] = scratch();
-        let n = unsafe { chosen(&c, p.count, slots, start as i16, &mut rows) };
-        let start = p.last + 1 + start;
-        if buffer.len() < slots {
+        if buffer.len() < p.slots as usize {
             return refused(16);
         }
-        if start > 1_000_000_000 {
+        if p.last + 1 + start > 1_000_000_000 {
             return refused(17);
         }
-        for k in 0..n {
-            let row = get(&rows, k) as usize;
-            let x = get(&places, row) as usize;
-            let id = get(&p.ids, x);
-            set(buffer, k, id);
-            let stream = unsafe { p.streams.get_unchecked_mut(row) };
-            stream.release += stream.period;
-            let key = stream.release + stream.deadline;
-            set(&mut p.keys, x, key);
-            unlink(p, x);
-            let n = position(p, 64 + key as usize % BUCKETS, id);
-            link_before(p, x, n);
-        }
+        let times = unsafe { due_times(&c, p.count, start as i16) };
+        let start = p.last + 1 + start;
+        let n = serve_all(p, &rows, times, start, buffer);
         p.last = start;
         Held { answer: 0, start, n: n as u32 }
     }
@@ -516,9 +512,10 @@ impl Limit {
             x += 1;
         }
         let due = o.start + o.deadline;
-        let n = position(p, 64 + due as usize % BUCKETS, o.id as u16);
+        let n = position(p, 64 + due as usize % BUCKETS, o.start, o.id as u16);
         set(&mut p.ids, x, o.id as u16);
         set(&mut p.keys, x, due);
+        set(&mut p.releases, x, o.start);
         link_before(p, x, n);
     }
 }
@@ -588,7 +585,7 @@ impl Host for Limit {
             x += 1;
         }
         unlink(p, x);
-        (p.ids[x], p.keys[x], p.next[x], p.prev[x]) = (0, 0, 0, 0);
+        (p.ids[x], p.keys[x], p.releases[x], p.next[x], p.prev[x]) = (0, 0, 0, 0, 0);
         0
     }
 }

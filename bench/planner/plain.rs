@@ -1,5 +1,5 @@
 // Document 004's Algorithms 1 to 4 with nothing tested, neither the planner nor what is offered, and no index.
-// The queue is the one of its section 5.1; lists are in order of ids where slots are given, so that ties go as in document 01.
+// The queue is the one of its section 5.1; lists are in order of releases, then ids, where slots are given, so that ties go as in 02 (ii).
 use super::{mixed, Host, Offer};
 
 const BUCKETS: usize = 480;
@@ -59,10 +59,11 @@ impl Buckets {
         self.link_before(x, Buckets::head_of(key));
     }
 
-    fn file_by_id(&mut self, x: usize, key: u32, ids: &[u16; 64]) {
+    // In the order of releases and ids within the bucket.
+    fn file_in_order(&mut self, x: usize, key: u32, releases: &[u32; 64], ids: &[u16; 64]) {
         self.set_key(x, key);
         let mut n = get(&self.next, Buckets::head_of(key)) as usize;
-        while n < 64 && get(ids, n) < get(ids, x) {
+        while n < 64 && (get(releases, n), get(ids, n)) < (get(releases, x), get(ids, x)) {
             n = get(&self.next, n) as usize;
         }
         self.link_before(x, n);
@@ -129,7 +130,7 @@ impl Plain {
         set(&mut self.releases, x, o.start);
         self.load += self.frame / o.period;
         self.tight += 1.0 / f64::from(o.deadline);
-        self.queue.file_by_id(x, o.start + o.deadline, &self.ids);
+        self.queue.file_in_order(x, o.start + o.deadline, &self.releases, &self.ids);
         x
     }
 
@@ -245,7 +246,7 @@ impl Host for Plain {
                     let period = get(&self.periods, x);
                     set(&mut self.releases, x, release + period);
                     self.queue.unlink(x);
-                    self.queue.file_by_id(x, key + period, &self.ids);
+                    self.queue.file_in_order(x, key + period, &self.releases, &self.ids);
                 }
                 x = after;
             }

@@ -24,6 +24,7 @@ pub struct Planner {
     pub keys: [u32; 64],
     pub next: [u16; 544],
     pub prev: [u16; 544],
+    pub releases: [u32; 64],
 }
 
 #[repr(C)]
@@ -48,8 +49,8 @@ impl Planner {
 
     pub fn open_at(slots: u32, frame: u32, gap: u32, last: u32) -> Planner {
         let none = Stream { id: 0, period: 0, deadline: 0, release: 0 };
-        let (ids, keys, next, prev) = ([0; 64], [0; 64], [0; 544], [0; 544]);
-        let mut p = Planner { slots, frame, gap, last: 0, count: 0, streams: [none; 64], ids, keys, next, prev };
+        let (ids, keys, next, prev, releases) = ([0; 64], [0; 64], [0; 544], [0; 544], [0; 64]);
+        let mut p = Planner { slots, frame, gap, last: 0, count: 0, streams: [none; 64], ids, keys, next, prev, releases };
         assert_eq!(unsafe { planner_open(&mut p, slots, frame, gap, last) }, 0);
         p
     }

@@ -16,7 +16,8 @@
  *
  * What C has to keep, since nothing checks a call or this file against the source:
  *   - a 64-bit x86 machine: the library is built for it, uses its SSE2 registers, and takes size_t to be 8 bytes;
- *   - the structs as they stand here, with the layout and alignment that C gives them; the examples check sizes and offsets;
+ *   - the structs as they stand here, with the layout and alignment that C gives them; the examples check sizes and offsets. A planner kept
+ *     by an earlier version, whose queue had no `releases`, has another layout (3,608 bytes, where it now has 3,864) and must be opened anew;
  *   - no pointer is null, buffers of length 0 included, and each is aligned for its type;
  *   - a planner's memory has been written before it is lent (to open too: zeros will do), so that every byte has a value;
  *   - buffer points to `length` ids that can be read and, for planner_round, written; length is at most the buffer's real one;
@@ -26,7 +27,7 @@
  * program without a C library has to have its own, as examples/c/freestanding.c has. No heap; no pointer is kept, and no call writes
  * anything but what it is lent and its stack. Every call returns, if these two do and the stack is large enough; nothing tests that it is.
  *
- * Stack, in bytes, return address and memcpy and memset of glibc included: open 856, add 18,904, remove 15,256, round 20,520, filled 24 (16
+ * Stack, in bytes, return address and memcpy and memset of glibc included: open 1,112, add 20,712, remove 16,808, round 22,200, filled 24 (16
  * of each are the measuring program's). Measured on a painted stack (`bash bench/stack`), the most over calls of every answer on a dozen
  * tables with up to 64 streams. That is this build, by the compiler that built it, and no promise: measure again what is linked, and leave
  * room above it.
@@ -58,12 +59,13 @@ struct planner_table {
     struct planner_stream streams[PLANNER_PLACES];
 };
 
-/* The queue of due times. Its fields are for the library alone. */
+/* The queue of due times and releases. Its fields are for the library alone. */
 struct planner_queue {
     uint16_t ids[PLANNER_PLACES];
     uint32_t keys[PLANNER_PLACES];
     uint16_t next[PLANNER_NODES];
     uint16_t prev[PLANNER_NODES];
+    uint32_t releases[PLANNER_PLACES];
 };
 
 /* B, F, G and L of document 01, the streams and the queue that files them. To be read, and to be copied whole (a host that takes
@@ -97,8 +99,9 @@ uint32_t planner_add(struct planner *p, uint32_t id, uint32_t start, uint32_t pe
 /* Takes a stream out. Refuses 5, and 14 where there is no such stream. */
 uint32_t planner_remove(struct planner *p, uint32_t id);
 
-/* Holds the next round: its start, and n ids in the buffer's first n places, n at most slots; later places are untouched. That start and
- * ids are those of the lazy rule, that no packet is late and that no plan needs fewer rounds, is proved of every sound planner, with or
+/* Holds the next round: its start, and n ids in the buffer's first n places, n at most slots; later places are untouched. Of the packets that
+ * may ride they are the first by due time, in that order; those due at the same time go by earlier release, then by smaller id. That start
+ * and ids are those of the rules, that no packet is late and that no plan needs fewer rounds, is proved of every sound planner, with or
  * without a stream (docs/RULES.md, demands 2 and 3). With none, before the first is added or after the last is taken out, the round is
  * held at last + gap with n 0, the buffer is left as it was, and no plan that keeps the gap limit holds its k-th round later.
  * Refuses 5 (the closed planner too); 16 if length is below slots, even where there is nothing to write; 17 if the start is after

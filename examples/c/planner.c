@@ -14,11 +14,12 @@ _Static_assert(offsetof(struct planner_stream, deadline) == 8, "stream.deadline"
 _Static_assert(offsetof(struct planner_stream, release) == 12, "stream.release");
 _Static_assert(sizeof(struct planner_table) == 1032, "table");
 _Static_assert(offsetof(struct planner_table, streams) == 8, "table.streams");
-_Static_assert(sizeof(struct planner_queue) == 2560, "queue");
+_Static_assert(sizeof(struct planner_queue) == 2816, "queue");
 _Static_assert(offsetof(struct planner_queue, keys) == 128, "queue.keys");
 _Static_assert(offsetof(struct planner_queue, next) == 384, "queue.next");
 _Static_assert(offsetof(struct planner_queue, prev) == 1472, "queue.prev");
-_Static_assert(sizeof(struct planner) == 3608, "planner");
+_Static_assert(offsetof(struct planner_queue, releases) == 2560, "queue.releases");
+_Static_assert(sizeof(struct planner) == 3864, "planner");
 _Static_assert(_Alignof(struct planner) == 8, "planner's alignment");
 _Static_assert(offsetof(struct planner, frame) == 4, "planner.frame");
 _Static_assert(offsetof(struct planner, gap) == 8, "planner.gap");
@@ -74,12 +75,23 @@ static void hold(void) {
     printf("\n");
 }
 
+/* Whether the queue has a stream under its due time and its release, in whichever place: the fields of the queue are where they are said to be. */
+static int is_filed(const struct planner_stream *s) {
+    const struct planner_queue *q = &kept.queue;
+    size_t x = 0;
+    while (x < PLANNER_PLACES && q->ids[x] != s->id) {
+        x++;
+    }
+    return x < PLANNER_PLACES && q->keys[x] == s->release + s->deadline && q->releases[x] == s->release;
+}
+
 /* Whether the library wrote the fields where this program reads them. After the three rounds, by hand: stream 1 was sent at 2, 5
  * and 8 and is next released at 10, stream 2 at 2 and 8 and next at 13, stream 3 at 5 and next at 8. */
 static int fields_agree(void) {
     const struct planner_stream expected[] = {{1, 3, 2, 10}, {2, 6, 6, 13}, {3, 6, 5, 8}};
     return kept.slots == 2 && kept.frame == 6 && kept.gap == 6 && kept.last == 8 && kept.table.count == 3
-        && memcmp(kept.table.streams, expected, sizeof expected) == 0;
+        && memcmp(kept.table.streams, expected, sizeof expected) == 0 && is_filed(&expected[0]) && is_filed(&expected[1])
+        && is_filed(&expected[2]);
 }
 
 int main(void) {

@@ -22,6 +22,7 @@ struct Queue {
     keys: [u32; 64],
     next: [u16; 544],
     prev: [u16; 544],
+    releases: [u32; 64],
 }
 
 #[repr(C)]
@@ -48,10 +49,11 @@ const _: () = {
     assert!(offset_of!(Stream, deadline) == 8 && offset_of!(Stream, release) == 12);
     assert!(size_of::<Table>() == 1032);
     assert!(offset_of!(Table, count) == 0 && offset_of!(Table, streams) == 8);
-    assert!(size_of::<Queue>() == 2560);
+    assert!(size_of::<Queue>() == 2816);
     assert!(offset_of!(Queue, ids) == 0 && offset_of!(Queue, keys) == 128);
     assert!(offset_of!(Queue, next) == 384 && offset_of!(Queue, prev) == 1472);
-    assert!(size_of::<Planner>() == 3608 && align_of::<Planner>() == 8);
+    assert!(offset_of!(Queue, releases) == 2560);
+    assert!(size_of::<Planner>() == 3864 && align_of::<Planner>() == 8);
     assert!(offset_of!(Planner, slots) == 0 && offset_of!(Planner, frame) == 4);
     assert!(offset_of!(Planner, gap) == 8 && offset_of!(Planner, last) == 12);
     assert!(offset_of!(Planner, table) == 16 && offset_of!(Planner, queue) == 1048);
@@ -87,11 +89,18 @@ fn hold(kept: &mut Planner) {
     println!();
 }
 
+// Whether the queue has a stream under its due time and its release, in whichever place.
+fn is_filed(queue: &Queue, s: &Stream) -> bool {
+    let place = queue.ids.iter().position(|id| u32::from(*id) == s.id);
+    place.is_some_and(|x| queue.keys[x] == s.release + s.deadline && queue.releases[x] == s.release)
+}
+
 // Whether the library wrote the fields where this program reads them; the releases after the three rounds are worked out by hand.
 fn fields_agree(kept: &Planner) -> bool {
     let streams = kept.table.streams.map(|s| (s.id, s.period, s.deadline, s.release));
     (kept.slots, kept.frame, kept.gap, kept.last, kept.table.count) == (2, 6, 6, 8, 3)
         && streams[..3] == [(1, 3, 2, 10), (2, 6, 6, 13), (3, 6, 5, 8)]
+        && kept.table.streams[..3].iter().all(|s| is_filed(&kept.queue, s))
 }
 
 fn main() {
@@ -102,7 +111,7 @@ fn main() {
         gap: 0,
         last: 0,
         table: Table { count: 0, streams: [none; 64] },
-        queue: Queue { ids: [0; 64], keys: [0; 64], next: [0; 544], prev: [0; 544] },
+        queue: Queue { ids: [0; 64], keys: [0; 64], next: [0; 544], prev: [0; 544], releases: [0; 64] },
     };
     println!("O,{}", unsafe { planner_open(&mut kept, 2, 6, 6, 0) });
     add(&mut kept, 1, 1, 3, 2);

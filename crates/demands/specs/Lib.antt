@@ -1,8 +1,10 @@
--- The three demands. A reader has to believe Calls and the statements of One, Two and Three, with the definitions that they cite.
+-- The three demands, and a held round as a packet. A reader has to believe Calls and the statements of One, Two, Three and Packets, with the definitions
+-- that they cite.
 pub mod Calls
 pub mod One
 pub mod Two
 pub mod Three
+pub mod Packets
 pub mod CallFacts
 pub mod HeldFacts
 pub mod CaseFacts

@@ -1,0 +1,4 @@
+-- Sets of small numbers.
+pub mod Bits
+pub mod BitFacts
+pub mod WordFacts

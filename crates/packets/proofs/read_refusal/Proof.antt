@@ -1,0 +1,115 @@
+-- `packets::read_refusal` meets its contract: the values tested are those in the bytes.
+use mathlib.Core.Path.{sym, ap, subst, subst⁻¹, _∙_}
+use mathlib.Core.List.{List}
+use Prim.Native.Nat.{ℕ, _+_, _*_}
+use native.Mathlib.Omega.{arith}
+use borrow.Author.Needs.{needs}
+use Rattle.basics.specs.Decides.{Decides, failed, passed, same-as}
+use Rattle.packet_bytes.specs.Parts.{values-in}
+use Rattle.packets.specs.Good.{IsGood}
+use Rattle.packets.specs.Reading.{HasLength}
+use Rattle.packets.specs.ReadingFacts.{as-many-ids, values-read, answers-26, answers-27, answers-0}
+use Rattle.packets.proofs.read_refusal.Statement.{statement}
+use Rattle.packets.proofs.read_refusal.Tie as tie
+
+returns : tie.Need-returns
+returns c = answers-26 (c .before .before .args .packet .now) (λ long. omega (arith, c .if1 .taken, long .0))
+
+shared-slice-read-wide : tie.Need-shared-slice-read-wide
+shared-slice-read-wide c = search needs
+
+wide-requires : tie.Need-wide-requires
+wide-requires c κs = search needs
+
+cast-n : tie.Need-cast-n
+cast-n c = search needs
+
+mul-if2 : tie.Need-mul-if2
+mul-if2 c = search needs
+
+add-if2 : tie.Need-add-if2
+add-if2 c = search needs
+
+returns-2 : tie.Need-returns-2
+returns-2 c = answers-26 (c .before .before .before .before .before .args .packet .now) (λ long. c .if2 .taken (long .1 ∙ ap (λ (n : ℕ). 6 + 2 * n) (sym (c .before .wide .ensures .0))))
+
+sub-ids-of-pairs : tie.Need-sub-ids-of-pairs
+sub-ids-of-pairs c = search needs
+
+part-ids-of-pairs-start : tie.Need-part-ids-of-pairs-start
+part-ids-of-pairs-start c = search needs
+
+part-ids-of-pairs-end : tie.Need-part-ids-of-pairs-end
+part-ids-of-pairs-end c = search needs
+
+ids-of-pairs-requires : tie.Need-ids-of-pairs-requires
+ids-of-pairs-requires c κs = search needs
+
+start-of-header-requires : tie.Need-start-of-header-requires
+start-of-header-requires c κs = search needs
+
+shared-slice-read-wide-2 : tie.Need-shared-slice-read-wide-2
+shared-slice-read-wide-2 c = search needs
+
+wide-requires-2 : tie.Need-wide-requires-2
+wide-requires-2 c κs = search needs
+
+array-share-prefix-ids : tie.Need-array-share-prefix-ids
+array-share-prefix-ids c = search needs
+
+slice-aggregate-are-good : tie.Need-slice-aggregate-are-good
+slice-aggregate-are-good c =
+    let pairs = c .before .before .before .before in
+    let measured = pairs .before .before in
+    as-many-ids (measured .before .before .before .before .before .args .packet .now) (measured .before .wide .result) _ (measured .if2 .left) (pairs .ids-of-pairs .ensures)
+
+are-good-requires : tie.Need-are-good-requires
+are-good-requires c κs = search needs
+
+-- where the values are tested: the bytes, whose length is right, and which hold those values
+abbrev bytes : tie.After-are-good → List ℕ
+bytes c = c .before .before .before .before .before .before .before .before .before .before .before .before .args .packet .now
+
+long : (c : tie.After-are-good) → HasLength (bytes c)
+long c =
+    let measured = c .before .before .before .before .before .before .before in
+    (measured .before .before .before .if1 .left, measured .if2 .left ∙ ap (λ (n : ℕ). 6 + 2 * n) (measured .before .wide .ensures .0))
+
+good-if : (c : tie.After-are-good) → Decides (c .are-good .result) (IsGood (values-in (bytes c)))
+good-if c =
+    let start = c .before .before .before .before .start-of-header .ensures in
+    let ids = c .before .before .before .before .before .ids-of-pairs .ensures in
+    let same = values-read (bytes c) start (c .before .before .wide2 .ensures .0) ids in
+    same-as (subst IsGood same) (subst⁻¹ IsGood same) (c .are-good .ensures)
+
+returns-3 : tie.Need-returns-3
+returns-3 c = answers-27 (bytes (c .before)) (long (c .before)) (failed (good-if (c .before)) (c .if3 .taken))
+
+returns-4 : tie.Need-returns-4
+returns-4 c =
+    let known = c .before .before .before .before .before .before .before .before .before .before .before .before .shared-slice-known .given in
+    answers-0 (bytes (c .before)) (λ i. omega (arith, known i)) (long (c .before)) (passed (good-if (c .before)) (c .if3 .left))
+
+pub read-refusal-spec : {M : Type 1} → statement M
+read-refusal-spec =
+    tie.close
+    (tie.spec
+    returns
+    shared-slice-read-wide
+    wide-requires
+    cast-n
+    mul-if2
+    add-if2
+    returns-2
+    sub-ids-of-pairs
+    part-ids-of-pairs-start
+    part-ids-of-pairs-end
+    ids-of-pairs-requires
+    start-of-header-requires
+    shared-slice-read-wide-2
+    wide-requires-2
+    array-share-prefix-ids
+    slice-aggregate-are-good
+    are-good-requires
+    returns-3
+    returns-4)

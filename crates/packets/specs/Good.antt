@@ -1,0 +1,22 @@
+-- When a packet is good, as document 02 says under (iii).
+use mathlib.Core.Path.{_≡_}
+use mathlib.Core.List.{List, List·Mem, List·Nodup}
+use Prim.Native.Nat.{ℕ, _≤_}
+use lib.ListN.{length}
+use Rattle.packet_bytes.specs.Layout.{Values, bytes-of}
+
+-- The ids of a good packet: each is 1 to 32,767, and none stands twice. Requests (vi) and (viii) will change this condition and no other.
+pub record IdsGood (ids : List ℕ) : Type 0 where
+  pub range : (id : ℕ) → List·Mem id ids → (1 ≤ id) × (id ≤ 32_767)
+  pub once : List·Nodup ids
+
+-- A good packet: the start is at most 1,000,000,000, B is 1 to 64, n is at most B, and the ids are good.
+pub record IsGood (v : Values) : Type 0 where
+  pub start : v .start ≤ 1_000_000_000
+  pub slots : (1 ≤ v .slots) × (v .slots ≤ 64)
+  pub count : length (v .ids) ≤ v .slots
+  pub ids : IdsGood (v .ids)
+
+-- The bytes of a good packet: those of some good values. (No others have the same bytes: `same-bytes-same-values`.)
+abbrev pub IsGoodPacket : List ℕ → Type 0
+IsGoodPacket p = (v : Values) × (p ≡ bytes-of v) × IsGood v

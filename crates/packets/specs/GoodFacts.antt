@@ -1,0 +1,38 @@
+-- Whether values, or bytes, are those of a good packet can be decided.
+use mathlib.Core.Path.{_≡_, sym, ap, subst, _∙_}
+use mathlib.Core.Logic.{Dec·and}
+use mathlib.Core.List.{List, decidableBAll, nodupDecidable, List-discrete}
+use Prim.Native.Nat.{ℕ, _≤_}
+use native.Mathlib.Decide.{decLe, ℕ-discrete, map-dec}
+use lib.ListN.{length}
+use Rattle.packet_bytes.specs.Layout.{Values, bytes-of}
+use Rattle.packets.specs.Good.{IdsGood, IsGood, IsGoodPacket}
+use Rattle.packet_bytes.specs.Parts.{values-in}
+use Rattle.packet_bytes.specs.LayoutFacts.{values-kept}
+
+decide-within : (limit n : ℕ) → Dec ((1 ≤ n) × (n ≤ limit))
+decide-within limit n = Dec·and (decLe 1 n) (decLe n limit)
+
+decide-ids : (ids : List ℕ) → Dec (IdsGood ids)
+decide-ids ids =
+    map-dec (λ w. record { range = w .0; once = w .1 }) (λ r. (r .range, r .once))
+    (Dec·and (decidableBAll (decide-within 32_767) ids) (nodupDecidable ℕ-discrete ids))
+
+pub decide-good : (v : Values) → Dec (IsGood v)
+decide-good v =
+    map-dec (λ w. record { start = w .0; slots = w .1 .0; count = w .1 .1 .0; ids = w .1 .1 .1 }) (λ r. (r .start, (r .slots, (r .count, r .ids))))
+    (Dec·and (decLe (v .start) 1_000_000_000)
+    (Dec·and (decide-within 64 (v .slots))
+    (Dec·and (decLe (length (v .ids)) (v .slots)) (decide-ids (v .ids)))))
+
+-- bytes that are those of some values are those of the values in them
+pub values-are-in : {p : List ℕ} (v : Values) → p ≡ bytes-of v → v ≡ values-in p
+values-are-in {p} v same = sym (values-kept v) ∙ ap values-in (sym same)
+
+pub good-in : {p : List ℕ} → IsGoodPacket p → IsGood (values-in p)
+good-in (v, same, good) = subst IsGood (values-are-in v same) good
+
+pub decide-packet : (p : List ℕ) → Dec (IsGoodPacket p)
+decide-packet p =
+    map-dec (λ w. (values-in p, w .0, w .1)) (λ is. (is .1 ∙ ap bytes-of (values-are-in (is .0) (is .1)), good-in is))
+    (Dec·and (List-discrete ℕ-discrete p (bytes-of (values-in p))) (decide-good (values-in p)))

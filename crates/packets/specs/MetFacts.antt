@@ -1,0 +1,99 @@
+-- Ids met one after the other: good ones so far, and a set that has the remainders of all of them.
+use mathlib.Core.Path.{_≡_, sym, subst, subst⁻¹, _∙_}
+use mathlib.Core.Bool.{Bool, true}
+use mathlib.Core.Logic.{Or·elim}
+use mathlib.Core.HLevel.{⊥-prop}
+use mathlib.Core.List.{List, [], _∷_, _++_, List·Mem, List·Mem-prop, List·Nodup}
+use mathlib.Core.List.{nodup-nil, nodup-append, nodup-cons, mem-append, mem-append-left, mem-append-right, eq-or-mem-of-mem-cons, mem-cons-self, not-mem-nil}
+use Prim.Native.Nat.{ℕ, _+_, _%_, _≤_, _<_}
+use native.Mathlib.Numerals.{add-one}
+use native.Mathlib.Decide.{ℕ-discrete}
+use lib.ListN.{length, getD, take}
+use lib.Seq.{take-suc, split-at}
+use Rattle.basics.specs.Decides.{Decides, decides-yes, same-as}
+use Rattle.basics.specs.Members.{getD-mem}
+use Rattle.bits.specs.Bits.{InWords, IsWordsWith}
+use Rattle.bits.specs.WordFacts.{zeros, length-zeros}
+use Rattle.packets.specs.Good.{IdsGood}
+
+-- The set has the remainder by 1,024 of each id. Two ids may share one, so that it may have the remainder of an id that was not met.
+abbrev pub HasMet : List ℕ → List ℕ → Type 0
+HasMet words ids = (x : ℕ) → List·Mem x ids → InWords words (x % 1024)
+
+-- The ids met so far are good, and the set has their remainders.
+pub record IsMet (ids words : List ℕ) : Type 0 where
+  pub size : length words ≡ 16
+  pub good : IdsGood ids
+  pub all : HasMet words ids
+
+pub none-good : IdsGood []
+none-good = record { range = λ id m. absurd (not-mem-nil m); once = nodup-nil }
+
+pub none-met : IsMet [] (zeros 16)
+none-met = record { size = length-zeros 16; good = none-good; all = λ x m. absurd (not-mem-nil m) }
+
+-- in a list with one more at its end, what is not that one was there before
+earlier : (ids : List ℕ) (x y : ℕ) → (y ≡ x → ⊥) → List·Mem y (ids ++ (x ∷ [])) → List·Mem y ids
+earlier ids x y other m =
+    Or·elim List·Mem-prop (mem-append .0 m) (λ before. before)
+    (λ last. Or·elim List·Mem-prop (eq-or-mem-of-mem-cons last) (λ same. absurd (other same)) (λ none. absurd (not-mem-nil none)))
+
+-- one id more that is in range and not there yet
+pub one-more-good : (ids : List ℕ) (x : ℕ) → IdsGood ids → (1 ≤ x) × (x ≤ 32_767) → (List·Mem x ids → ⊥) → IdsGood (ids ++ (x ∷ []))
+one-more-good ids x good range new =
+    record {
+      range = λ y m. in-range y m (ℕ-discrete y x);
+      once = nodup-append .1 (good .once, nodup-cons .1 (not-mem-nil, nodup-nil), apart);
+    }
+  where
+    in-range : (y : ℕ) → List·Mem y (ids ++ (x ∷ [])) → Dec (y ≡ x) → (1 ≤ y) × (y ≤ 32_767)
+    in-range y m (yes same) = subst⁻¹ (λ (z : ℕ). (1 ≤ z) × (z ≤ 32_767)) same range
+    in-range y m (no other) = good .range y (earlier ids x y other m)
+
+    apart : (y : ℕ) → List·Mem y ids → List·Mem y (x ∷ []) → ⊥
+    apart y m last =
+        Or·elim ⊥-prop (eq-or-mem-of-mem-cons last) (λ same. new (subst (λ (z : ℕ). List·Mem z ids) same m)) not-mem-nil
+
+-- the ids before the next place are those before a place, and the one there
+next-taken : (ids : List ℕ) (i : ℕ) → i < length ids → take (i + 1) ids ≡ take i ids ++ (getD ids i 0 ∷ [])
+next-taken ids i inside = rw add-one (take-suc ids i 0 inside)
+
+pub one-more-met : (ids : List ℕ) (i : ℕ) {words after : List ℕ} → i < length ids → IsMet (take i ids) words → (1 ≤ getD ids i 0) × (getD ids i 0 ≤ 32_767)
+    → (List·Mem (getD ids i 0) (take i ids) → ⊥) → IsWordsWith words (getD ids i 0 % 1024) after → IsMet (take (i + 1) ids) after
+one-more-met ids i {words} {after} inside met range new put =
+    subst⁻¹ (λ (l : List ℕ). IsMet l after) (next-taken ids i inside)
+    (record {
+      size = put .size ∙ met .size;
+      good = one-more-good (take i ids) (getD ids i 0) (met .good) range new;
+      all = λ y m. is-in y m (ℕ-discrete y (getD ids i 0));
+    })
+  where
+    is-in : (y : ℕ) → List·Mem y (take i ids ++ (getD ids i 0 ∷ [])) → Dec (y ≡ getD ids i 0) → InWords after (y % 1024)
+    is-in y m (yes same) = subst⁻¹ (λ (z : ℕ). InWords after (z % 1024)) same (put .here)
+    is-in y m (no other) = put .kept (y % 1024) (met .all y (earlier (take i ids) (getD ids i 0) y other m))
+
+-- good ids are in range at every place
+pub good-at : (ids : List ℕ) (i : ℕ) → IdsGood ids → i < length ids → (1 ≤ getD ids i 0) × (getD ids i 0 ≤ 32_767)
+good-at ids i good inside = good .range (getD ids i 0) (getD-mem ids i 0 inside)
+
+-- and at none stands one that stands before it
+pub good-is-new : (ids : List ℕ) (i : ℕ) → IdsGood ids → i < length ids → List·Mem (getD ids i 0) (take i ids) → ⊥
+good-is-new ids i good inside before =
+    nodup-append .0 (subst List·Nodup (split-at ids i 0 inside) (good .once)) .2 (getD ids i 0) before mem-cons-self
+
+-- whether an id stands before the next place: it stands at this one
+pub found-at : (ids : List ℕ) (j x : ℕ) {next : Bool} → j < length ids → getD ids j 0 ≡ x → next ≡ true → Decides next (List·Mem x (take (j + 1) ids))
+found-at ids j x inside here yes-now =
+    subst⁻¹ (λ (b : Bool). Decides b (List·Mem x (take (j + 1) ids))) yes-now
+    (decides-yes (subst⁻¹ (List·Mem x) (next-taken ids j inside) (mem-append-right (take j ids) (subst (λ (y : ℕ). List·Mem y (getD ids j 0 ∷ [])) here mem-cons-self))))
+
+-- or it does not, and stands before the next place if it stands before this one
+pub passed-over : (ids : List ℕ) (j x : ℕ) {found next : Bool} → j < length ids → Decides found (List·Mem x (take j ids)) → (getD ids j 0 ≡ x → ⊥) → next ≡ found
+    → Decides next (List·Mem x (take (j + 1) ids))
+passed-over ids j x inside decided other as-before =
+    subst⁻¹ (λ (b : Bool). Decides b (List·Mem x (take (j + 1) ids))) as-before
+    (same-as (λ m. subst⁻¹ (List·Mem x) (next-taken ids j inside) (mem-append-left (getD ids j 0 ∷ []) m))
+    (λ m. earlier (take j ids) (getD ids j 0) x (λ same. other (sym same)) (subst (List·Mem x) (next-taken ids j inside) m)) decided)
+
+pub all-looked-at : (ids : List ℕ) (i j x : ℕ) {found : Bool} → j ≡ i → Decides found (List·Mem x (take j ids)) → Decides found (List·Mem x (take i ids))
+all-looked-at ids i j x {found} all = subst (λ (k : ℕ). Decides found (List·Mem x (take k ids))) all

@@ -1,8 +1,11 @@
 //! A second implementation of the planner and command program of documents 01
-//! and 02, written from the papers alone, to test the first against.
+//! and 02, and of the packet on air, written from the papers alone, to test the
+//! first against.
 
+mod cases;
 mod count;
 mod generate;
+mod packet;
 mod planner;
 mod program;
 mod selftest;
@@ -18,6 +21,12 @@ oracle count                counts the answers in an output on standard input
 oracle ties                 counts the rounds of a script on standard input that
                             would list other ids, or the same in another order,
                             by due time and then id alone
+oracle pack START B [ID ..] writes the packet of a round, as bytes; if it is
+                            refused, the answer to standard error alone
+oracle unpack               reads a packet on standard input and prints
+                            ANSWER,START,B,N and ,ID for each id
+oracle cases                answers the packet cases on standard input, which
+                            are those of crates/packet_cases
 oracle selftest             checks the papers' cases and itself
 ";
 
@@ -36,8 +45,29 @@ fn main() -> ExitCode {
             (Ok(seed), Ok(lines)) => print(&generate::script(seed, lines)),
             _ => usage(),
         },
+        ["pack", start, slots, ids @ ..] => pack(start, slots, ids),
+        ["unpack"] => print(packet::text(&input()).as_bytes()),
+        ["cases"] => print(cases::answers(&String::from_utf8_lossy(&input())).as_bytes()),
         ["selftest"] => selftest::run(),
         _ => usage(),
+    }
+}
+
+/// Prints the packet of these values, or its refusal. The start and B are
+/// 32-bit numbers and the ids 16-bit numbers; anything else is no packet at
+/// all.
+fn pack(start: &str, slots: &str, ids: &[&str]) -> ExitCode {
+    let ids: Result<Vec<u16>, _> = ids.iter().map(|id| id.parse()).collect();
+    let (Ok(start), Ok(slots), Ok(ids)) = (start.parse::<u32>(), slots.parse::<u32>(), ids) else {
+        return usage();
+    };
+    let mut bytes = vec![0; packet::IDS_FROM + 2 * ids.len()];
+    match packet::write(start.into(), slots.into(), &ids, &mut bytes) {
+        0 => print(&bytes),
+        answer => {
+            eprintln!("{answer}");
+            ExitCode::FAILURE
+        }
     }
 }
 

@@ -4,6 +4,7 @@
 
 use crate::count::{self, Counts};
 use crate::generate;
+use crate::packet::{self, Read};
 use crate::planner::{self, Planner, Stream};
 use crate::program::{self, Program};
 use crate::ties::Ties;
@@ -11,7 +12,7 @@ use std::process::ExitCode;
 
 /// Runs every check and says which ones fail.
 pub fn run() -> ExitCode {
-    let checks: [(&str, fn() -> bool); 12] = [
+    let checks: [(&str, fn() -> bool); 17] = [
         ("the three rounds and the other tables on the edge", tables),
         ("figure 9 of document 004", figure_9),
         ("superframe", superframes),
@@ -21,6 +22,11 @@ pub fn run() -> ExitCode {
         ("rounds with no stream", no_streams),
         ("packets due at the same time", equals),
         ("the slot buffer", buffer),
+        ("the packet of the first round", first_packet),
+        ("the packet reader's lengths", packet_lengths),
+        ("the packet reader's values", packet_values),
+        ("the packet writer's values", packet_writes),
+        ("the packet writer's buffer", packet_buffer),
         ("generated scripts against a simulation", simulated),
         ("every answer in 20,000 generated lines", every_answer),
         ("a tenth of the rounds show the order", order_shown),
@@ -219,6 +225,185 @@ fn buffer() -> bool {
     let still_short = planner.round(&mut short) == Err(16);
     let late = planner.round(&mut long) == Err(17);
     none && too_short && held && written && still_short && late
+}
+
+/// The first of the three rounds, "R,0,2,2,1,2": start 2, B = 2, ids 1 and 2,
+/// as bytes and back. A packet with no id is six bytes.
+fn first_packet() -> bool {
+    let bytes = [0, 0, 0, 2, 2, 2, 0, 1, 0, 2];
+    let mut written = [7; 10];
+    let mut none = [7; 6];
+    packet::write(2, 2, &[1, 2], &mut written) == 0
+        && written == bytes
+        && reads(&bytes, (2, 2, 2))
+        && packet::ids_part(&bytes) == [0, 1, 0, 2]
+        && packet::ids(&[0, 1, 0, 2]) == [1, 2]
+        && packet::text(&bytes) == "0,2,2,2,1,2\n"
+        && packet::text(&bytes[..9]) == "26,0,0,0\n"
+        && packet::write(0x0102_0304, 64, &[], &mut none) == 0
+        && none == [1, 2, 3, 4, 64, 0]
+        && reads(&none, (0x0102_0304, 64, 0))
+        && packet::ids_part(&none).is_empty()
+        && reads(&[0, 0, 0, 0, 1, 1, 0x12, 0x34], (0, 1, 1))
+        && packet::ids(&[0x12, 0x34]) == [0x1234]
+}
+
+/// The bytes of a packet, good or not.
+fn bytes(start: u32, slots: u8, n: u8, ids: &[u16]) -> Vec<u8> {
+    let ids: Vec<u8> = ids.iter().flat_map(|id| id.to_be_bytes()).collect();
+    [&start.to_be_bytes()[..], &[slots, n], &ids].concat()
+}
+
+/// The ids 1 to n.
+fn first_ids(n: u16) -> Vec<u16> {
+    (1..=n).collect()
+}
+
+/// Whether a packet is read as these values.
+fn reads(packet: &[u8], (start, slots, n): (u64, u64, u64)) -> bool {
+    let wanted = Read {
+        answer: 0,
+        start,
+        slots,
+        n,
+    };
+    packet::read(packet) == wanted && packet::ids_part(packet) == &packet[6..]
+}
+
+/// "A refused read gives zeros, and the second call then an empty part."
+fn read_refused(packet: &[u8], answer: u32) -> bool {
+    let wanted = Read {
+        answer,
+        start: 0,
+        slots: 0,
+        n: 0,
+    };
+    packet::read(packet) == wanted && packet::ids_part(packet).is_empty()
+}
+
+/// "26 for a length other than 6 + 2×n (or under 6)", tested before 27;
+/// "the whole longer buffer of a written packet reads as 26".
+fn packet_lengths() -> bool {
+    let good = bytes(2, 3, 3, &[1, 2, 3]);
+    let bad = bytes(1_000_000_001, 0, 3, &[0, 0, 40_000]);
+    let long = |packet: &[u8], more: usize| [packet, &vec![0; more]].concat();
+    let wrong = |packet: &[u8]| {
+        (0..packet.len()).all(|length| read_refused(&packet[..length], 26))
+            && (1..=600).all(|more| read_refused(&long(packet, more), 26))
+    };
+    let none = bytes(2, 3, 0, &[]);
+    reads(&good, (2, 3, 3))
+        && read_refused(&bad, 27)
+        && wrong(&good)
+        && wrong(&bad)
+        && reads(&none, (2, 3, 0))
+        && wrong(&none)
+        && read_refused(&[], 26)
+        && read_refused(&[0; 5], 26)
+        && read_refused(&[0; 6], 27)
+        && read_refused(&[0; 7], 26)
+        && read_refused(&bytes(2, 3, 2, &[1, 2, 3]), 26)
+        && read_refused(&bytes(2, 3, 4, &[1, 2, 3]), 26)
+}
+
+/// "27 for a value not good", on both sides of each bound; "n = 255 with
+/// length 516 is 27".
+fn packet_values() -> bool {
+    let all = first_ids(255);
+    let start = reads(&bytes(1_000_000_000, 1, 0, &[]), (1_000_000_000, 1, 0))
+        && read_refused(&bytes(1_000_000_001, 1, 0, &[]), 27)
+        && read_refused(&bytes(u32::MAX, 1, 0, &[]), 27);
+    let slots = read_refused(&bytes(2, 0, 0, &[]), 27)
+        && read_refused(&bytes(2, 0, 1, &[1]), 27)
+        && reads(&bytes(2, 1, 1, &[1]), (2, 1, 1))
+        && reads(&bytes(2, 64, 1, &[1]), (2, 64, 1))
+        && read_refused(&bytes(2, 65, 1, &[1]), 27)
+        && read_refused(&bytes(2, 255, 1, &[1]), 27);
+    let n = [1, 2, 63, 64].into_iter().all(|b: u8| {
+        let n = usize::from(b);
+        reads(&bytes(2, b, b, &all[..n]), (2, b.into(), b.into()))
+            && read_refused(&bytes(2, b, b + 1, &all[..n + 1]), 27)
+    });
+    let most = bytes(2, 64, 255, &all);
+    let most = most.len() == 516 && read_refused(&most, 27);
+    let id = |id| bytes(2, 3, 3, &[5, id, 6]);
+    let ids = read_refused(&id(0), 27)
+        && reads(&id(1), (2, 3, 3))
+        && reads(&id(32_767), (2, 3, 3))
+        && read_refused(&id(32_768), 27)
+        && read_refused(&id(65_535), 27)
+        && read_refused(&bytes(2, 3, 3, &[0, 1, 2]), 27)
+        && read_refused(&bytes(2, 3, 3, &[1, 2, 0]), 27);
+    let mut twice = first_ids(64);
+    twice[63] = twice[0];
+    let twice = read_refused(&bytes(2, 64, 64, &twice), 27)
+        && read_refused(&bytes(2, 3, 2, &[1, 1]), 27)
+        && reads(&bytes(2, 3, 2, &[1, 257]), (2, 3, 2));
+    start && slots && n && most && ids && twice
+}
+
+/// The answer to a write; whatever it is, the bytes after the packet's end are
+/// as they were, and "a refused write writes nothing".
+fn write_answer(start: u64, slots: u64, ids: &[u16], length: usize) -> Option<u32> {
+    let mut buffer = vec![7; length];
+    let answer = packet::write(start, slots, ids, &mut buffer);
+    let end = if answer == 0 { 6 + 2 * ids.len() } else { 0 };
+    let untouched = buffer[end..].iter().all(|byte| *byte == 7);
+    let read_back = answer != 0
+        || reads(&buffer[..end], (start, slots, ids.len() as u64))
+            && packet::ids(packet::ids_part(&buffer[..end])) == ids
+            && (end == length || read_refused(&buffer, 26));
+    (untouched && read_back).then_some(answer)
+}
+
+/// The writer's 27, on both sides of each bound; "B = 261 is 27, not byte 5",
+/// "any id list longer than B is 27 (256 ids too)".
+fn packet_writes() -> bool {
+    let all = first_ids(300);
+    let gives = |start, slots, ids: &[u16], answer| {
+        write_answer(start, slots, ids, 1_000) == Some(answer)
+            && write_answer(start, slots, ids, 6 + 2 * ids.len()) == Some(answer)
+    };
+    let start = gives(0, 1, &[1], 0)
+        && gives(1_000_000_000, 1, &[1], 0)
+        && gives(1_000_000_001, 1, &[1], 27)
+        && gives(u32::MAX.into(), 1, &[1], 27);
+    let slots = gives(2, 0, &[], 27)
+        && gives(2, 1, &[], 0)
+        && gives(2, 64, &[], 0)
+        && gives(2, 65, &[], 27)
+        && gives(2, 256, &[], 27)
+        && gives(2, 261, &[], 27)
+        && gives(2, u32::MAX.into(), &[], 27);
+    let n = [1, 2, 63, 64]
+        .into_iter()
+        .all(|b: usize| gives(2, b as u64, &all[..b], 0) && gives(2, b as u64, &all[..b + 1], 27));
+    let long = [65, 255, 256, 257, 300]
+        .into_iter()
+        .all(|n| gives(2, 64, &all[..n], 27));
+    let ids = gives(2, 3, &[5, 0, 6], 27)
+        && gives(2, 3, &[5, 1, 6], 0)
+        && gives(2, 3, &[5, 32_767, 6], 0)
+        && gives(2, 3, &[5, 32_768, 6], 27)
+        && gives(2, 3, &[5, 65_535, 6], 27);
+    let mut twice = first_ids(64);
+    twice[63] = twice[0];
+    start && slots && n && long && ids && gives(2, 64, &twice, 27) && gives(2, 2, &[9, 9], 27)
+}
+
+/// "27, then 28 for a buffer shorter than needed".
+fn packet_buffer() -> bool {
+    let short = (0..10).all(|length| {
+        write_answer(2, 2, &[1, 2], length) == Some(28)
+            && write_answer(2, 2, &[1, 1], length) == Some(27)
+            && write_answer(2, 1, &[1, 2], length) == Some(27)
+            && write_answer(1_000_000_001, 2, &[1, 2], length) == Some(27)
+    });
+    short
+        && write_answer(2, 2, &[1, 2], 10) == Some(0)
+        && write_answer(2, 2, &[1, 2], 11) == Some(0)
+        && write_answer(2, 2, &[], 5) == Some(28)
+        && write_answer(2, 2, &[], 6) == Some(0)
 }
 
 /// Generated scripts: the planner stays sound, 12, 13 and each start are what

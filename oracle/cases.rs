@@ -1,0 +1,67 @@
+//! The cases of packets as text, and what the oracle answers to them: the
+//! lines that `crates/packet_cases` reads and prints.
+//!   P BYTES                 a packet to be read, in hex with blanks anywhere
+//!   W START B LENGTH ID ..  values to be written to a buffer of that length:
+//!                           four bytes, four, two, and two an id
+//! Any other line is passed over.
+
+use crate::packet::{self, Read};
+
+/// The answers to all lines.
+pub fn answers(text: &str) -> String {
+    text.lines().filter_map(answer).collect()
+}
+
+fn answer(line: &str) -> Option<String> {
+    let bytes = bytes(line.get(1..)?);
+    match line.chars().next()? {
+        'P' => Some(read(&bytes)),
+        'W' => Some(write(&bytes)),
+        _ => None,
+    }
+}
+
+/// The answer, start, B and n, then the length of the ids' part and its bytes.
+fn read(bytes: &[u8]) -> String {
+    let Read {
+        answer,
+        start,
+        slots,
+        n,
+    } = packet::read(bytes);
+    let part = packet::ids_part(bytes);
+    format!(
+        "P {answer} {start} {slots} {n} {} {}\n",
+        part.len(),
+        hex(part)
+    )
+}
+
+/// The answer, then all bytes of the buffer, which held ee before.
+fn write(bytes: &[u8]) -> String {
+    let (start, slots) = (number(&bytes[..4]), number(&bytes[4..8]));
+    let mut buffer = vec![0xee; number(&bytes[8..10]) as usize];
+    let answer = packet::write(start, slots, &packet::ids(&bytes[10..]), &mut buffer);
+    format!("W {answer} {}\n", hex(&buffer))
+}
+
+fn number(bytes: &[u8]) -> u64 {
+    bytes.iter().fold(0, |x, byte| x << 8 | u64::from(*byte))
+}
+
+/// The bytes that hex digits give, two each.
+fn bytes(text: &str) -> Vec<u8> {
+    let digits: Vec<u32> = text.chars().filter_map(|c| c.to_digit(16)).collect();
+    digits
+        .chunks_exact(2)
+        .map(|two| (two[0] * 16 + two[1]) as u8)
+        .collect()
+}
+
+/// Two digits a byte; a dash where there is none.
+fn hex(bytes: &[u8]) -> String {
+    if bytes.is_empty() {
+        return String::from("-");
+    }
+    bytes.iter().map(|byte| format!("{byte:02x}")).collect()
+}

@@ -1,5 +1,6 @@
 /* Document 01's example with no C library: memcpy and memset are all that the proved libraries need from outside. Exits with 0 if each answer
  * is the one expected, else with the number of the first that is not. For x86-64 Linux. */
+#include "packets.h"
 #include "planner.h"
 #include "superframe.h"
 
@@ -25,6 +26,17 @@ static int is_round(uint32_t start, uint16_t first, uint16_t second) {
     return held.answer == 0 && held.start == start && planner_filled(buffer, 64, held.n) == 2 && buffer[0] == first && buffer[1] == second;
 }
 
+/* Whether these values make a packet of ten bytes that reads back as they are, with its last byte where it belongs and the next untouched. */
+static int is_packet(uint32_t start, uint16_t first, uint16_t second) {
+    const uint16_t ids[] = {first, second};
+    uint8_t packet[11] = {0};
+    packet[10] = 0xee;
+    uint32_t written = packet_write(start, 2, ids, 2, packet, sizeof packet);
+    struct packet_header read = packet_read(packet, 10);
+    return written == 0 && packet[9] == second && packet[10] == 0xee && read.answer == 0 && read.start == start && read.slots == 2 && read.n == 2
+        && packet_ids_length(packet, 10) == 4 && packet_id(packet, 0) == first && packet_read(packet, 11).answer == 26;
+}
+
 /* How many answers have been looked at, and which was the first that is not the one expected; 0 if none. */
 static int seen, first_wrong;
 
@@ -42,6 +54,7 @@ static void example(void) {
     expect(planner_add(&kept, 2, 1, 6, 6) == 0);
     expect(planner_add(&kept, 3, 2, 6, 5) == 0);
     expect(is_round(2, 1, 2));
+    expect(is_packet(2, 1, 2));
     expect(is_round(5, 1, 3));
     expect(is_round(8, 1, 2));
     expect(planner_remove(&kept, 9) == 14);

@@ -8,6 +8,7 @@
 #include <stdlib.h>
 #include <string.h>
 
+#include "packets.h"
 #include "painted.h"
 #include "planner.h"
 #include "superframe.h"
@@ -18,6 +19,7 @@ uint16_t buffer[64];
 uint32_t arg[4];
 size_t length;
 uint8_t periods[255];
+uint8_t packet[134];
 uint32_t answer;
 
 static void call_open(void) { answer = planner_open(&kept, arg[0], arg[1], arg[2], arg[3]); }
@@ -26,21 +28,28 @@ static void call_remove(void) { answer = planner_remove(&kept, arg[0]); }
 static void call_round(void) { answer = planner_round(&kept, buffer, length).answer; }
 static void call_filled(void) { answer = (uint32_t)planner_filled(buffer, length, arg[0]); }
 static void call_superframe(void) { answer = superframe_answer(superframe(periods, length)); }
+static void call_write(void) { answer = packet_write(arg[0], arg[1], buffer, arg[2], packet, length); }
+static void call_read(void) { answer = packet_read(packet, length).answer; }
+static void call_ids_length(void) { answer = (uint32_t)packet_ids_length(packet, length); }
 static void call_nothing(void) { answer = 0; }
 
-/* The largest figure of a call, for answer 0 and for each refusal. */
+/* Answers are below this number. */
+#define ANSWERS 29
+
+/* The largest figure of a call, for answer 0 and for each refusal; of calls that answer a length all together. */
 struct figure {
     const char *name;
-    size_t most[26];
+    size_t most[ANSWERS];
 };
 
 static struct figure figures[] = {
     {"planner_open", {0}}, {"planner_add", {0}}, {"planner_remove", {0}}, {"planner_round", {0}}, {"planner_filled", {0}}, {"superframe", {0}},
+    {"packet_write", {0}}, {"packet_read", {0}}, {"packet_ids_length", {0}},
 };
 
 static uint32_t measure(int which, void (*call)(void)) {
     size_t used = painted_stack_used(call);
-    size_t *most = &figures[which].most[which == 4 || answer > 25 ? 0 : answer];
+    size_t *most = &figures[which].most[which == 4 || which == 8 || answer >= ANSWERS ? 0 : answer];
     if (used > *most) {
         *most = used;
     }
@@ -157,9 +166,37 @@ static void small_calls(void) {
     }
 }
 
+/* Packets of every n, written and read: good, with an id twice, too late, with one byte too few, and cut short. */
+static void packets(void) {
+    for (uint32_t n = 0; n <= 64; n++) {
+        for (int kind = 0; kind < 4; kind++) {
+            for (uint32_t k = 0; k < n; k++) {
+                buffer[k] = (uint16_t)(501 + k * 509);
+            }
+            uint32_t given[] = {kind == 2 ? 1000000001 : 16909060, 64, n, 0};
+            memcpy(arg, given, sizeof arg);
+            length = kind == 3 ? 5 + 2 * n : sizeof packet;
+            if (kind == 1 && n > 1) {
+                buffer[n - 1] = buffer[0];
+            }
+            measure(6, call_write);
+            length = 6 + 2 * n;
+            measure(7, call_read);
+            measure(8, call_ids_length);
+            length = 5 + 2 * n;
+            measure(7, call_read);
+            measure(8, call_ids_length);
+            packet[4] = (uint8_t)(kind == 2 ? 65 : 64);
+            length = 6 + 2 * n;
+            measure(7, call_read);
+        }
+    }
+}
+
 int main(void) {
     printf("a call of nothing: %zu bytes\n", painted_stack_used(call_nothing));
     small_calls();
+    packets();
     const uint32_t gaps[] = {200, 20};
     for (int g = 0; g < 2; g++) {
         table(1, 8, gaps[g]);
@@ -171,11 +208,11 @@ int main(void) {
     }
     for (size_t k = 0; k < sizeof figures / sizeof figures[0]; k++) {
         size_t most = 0;
-        for (int a = 0; a < 26; a++) {
+        for (int a = 0; a < ANSWERS; a++) {
             most = figures[k].most[a] > most ? figures[k].most[a] : most;
         }
-        printf("%-15s %6zu bytes;", figures[k].name, most);
-        for (int a = 0; a < 26; a++) {
+        printf("%-17s %6zu bytes;", figures[k].name, most);
+        for (int a = 0; a < ANSWERS; a++) {
             if (figures[k].most[a] > 0) {
                 printf(" %d: %zu", a, figures[k].most[a]);
             }

@@ -15,6 +15,7 @@ use Rattle.packets.specs.declared.Header.{Header}
 abbrev pub HasLength : List ℕ → Type 0
 HasLength p = (6 ≤ length p) × (length p ≡ 6 + 2 * getD p 5 0)
 
+-- whether it is right can be decided
 pub decide-length : (p : List ℕ) → Dec (HasLength p)
 decide-length p = Dec·and (decLe 6 (length p)) (ℕ-discrete (length p) (6 + 2 * getD p 5 0))
 

@@ -22,10 +22,10 @@ returns : tie.Need-returns
 returns c = no-part _ (λ zero. lt-irrefl 0 (omega (arith, c .before .if1 .taken, c .before .before .read-refusal .ensures ∙ zero)))
 
 sub-result : tie.Need-sub-result
-sub-result c = read-has-header (c .before .before .before .args .packet .now) (none-given (c .before .read-refusal .ensures) (c .if1 .left))
+sub-result c = omega (arith, read-has-header (c .before .before .before .args .packet .now) (none-given (c .before .read-refusal .ensures) (c .if1 .left)))
 
 part-result-start : tie.Need-part-result-start
-part-result-start c = read-has-header (c .before .before .before .args .packet .now) (none-given (c .before .read-refusal .ensures) (c .if1 .left))
+part-result-start c = omega (arith, read-has-header (c .before .before .before .args .packet .now) (none-given (c .before .read-refusal .ensures) (c .if1 .left)))
 
 part-result-end : tie.Need-part-result-end
 part-result-end c = search needs

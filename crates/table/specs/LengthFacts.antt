@@ -1,5 +1,5 @@
 -- How due times go one length further, and what a walk of them counts: one stream first, then the whole table.
-use mathlib.Core.Path.{_≡_, refl, sym, ap, _∙_}
+use mathlib.Core.Path.{_≡_, refl, sym, ap, subst, _∙_}
 use mathlib.Core.Logic.{if-pos, if-neg}
 use mathlib.Core.HLevel.{×-prop}
 use mathlib.Core.List.{List}
@@ -9,17 +9,19 @@ use native.Mathlib.Nat.{lt-irrefl}
 use native.Mathlib.Decide.{decLe, decLt, ℕ-discrete}
 use native.Mathlib.Numerals.{add-one}
 use native.Mathlib.Omega.{arith}
-use lib.ListN.{getD, length, set, length-set}
+use lib.ListN.{getD, length, set, length-set, replicate, getD-replicate}
 use lib.Seq.{getD-set-other}
 use borrow.Author.Count.{below-none}
 use Rattle.rules.specs.Streams.{Stream}
 use Rattle.rules.specs.Demand.{packets-by}
 use Rattle.rules.specs.Division.{packets-none, packets-mono, window, ceil-least, counted-iff-due}
-use Rattle.rules.specs.CountBy.{count-by, count-by-one-more, count-by-none}
+use Rattle.rules.specs.Sums.{AllWellFormed}
+use Rattle.rules.specs.CountBy.{count-by, count-by-one-more, count-by-none, count-by-demand, count-by-most-in}
 use Rattle.table.specs.Table.{streams-of, stream-at}
-use Rattle.table.specs.Lengths.{next-after, hits, after-hit, hits-before, HasPeriods, IsWalk, CanAdvance, IsAdvance}
+use Rattle.table.specs.Lengths.{next-after, hits, after-hit, hits-before, HasPeriods, AreNext, IsWalk, CanAdvance, IsAdvance, AreSums}
 use Rattle.table.specs.TableFacts.{Rows, row-at, first-rows, one-row-more, all-rows, one-place-more}
 use Rattle.table.specs.declared.Table.{Table}
+use Rattle.table.specs.declared.lengths.Sums.{Sums}
 
 pub hits-yes : (time t : ℕ) → time ≡ t → hits time t ≡ 1
 unfolding hits
@@ -147,34 +149,75 @@ module _ {periods : List ℕ} {n t : ℕ} {times₀ times : List ℕ} {sum i : �
       }
 
 module _ {table : Table} {periods : List ℕ} (has : HasPeriods table periods) where
-  pub can-advance : {first : Stream → ℕ} {u sum t : ℕ} {times : List ℕ} → IsWalk first table u times sum → t ≤ 60_000
-      → CanAdvance periods times (table .count) t
-  can-advance walk near = record { count = has .count; room = walk .room; short = λ k low. omega (arith, has .column k low, has .range k low); near = near }
+  pub can-advance : {first : Stream → ℕ} {u t : ℕ} {times : List ℕ} → AreNext first table u times → t ≤ 60_000 → CanAdvance periods times (table .count) t
+  can-advance next near = record { count = has .count; room = next .room; short = λ k low. omega (arith, has .column k low, has .range k low); near = near }
 
   -- before every first due time nothing is counted
   pub walk-begins : (first : Stream → ℕ) (t : ℕ) → ((k : ℕ) → k < table .count → t < first (stream-at table k))
       → (times : List ℕ) → length times ≡ 64 → ((k : ℕ) → k < table .count → getD times k 0 ≡ first (stream-at table k)) → IsWalk first table t times 0
   unfolding next-after
   walk-begins first t late times size begin = record {
-    times = λ k low.
-        let none = packets-none (stream-at table k .period) (has .range k low .0) (first (stream-at table k)) t (late k low) in
-        rw none (omega (arith, begin k low));
+    are-next = record {
+      times = λ k low.
+          let none = packets-none (stream-at table k .period) (has .range k low .0) (first (stream-at table k)) t (late k low) in
+          rw none (omega (arith, begin k low));
+      room = omega (arith, has .count, size);
+    };
     counted = sym (count-by-none first (streams-of table) t
         (all-rows (λ s. (1 ≤ s .period) × (t < first s)) (λ s. ×-prop le-prop le-prop) (table .streams) (table .count) (λ k low. (has .range k low .0, late k low))));
-    room = omega (arith, has .count, size);
   }
 
   -- a walk whose times go one length further counts those that they had there
-  pub walk-goes-on : {first : Stream → ℕ} {t sum r : ℕ} {times later : List ℕ} → IsWalk first table t times sum
-      → IsAdvance periods times (table .count) (t + 1) later r → IsWalk first table (t + 1) later (sum + r)
-  walk-goes-on {first} {t} {sum} {r} {times} {later} walk on = record {
-    times = λ k low. let s = stream-at table k in
-        on .moved k low ∙ rw (walk .times k low, has .column k low) (next-step (s .period) (has .range k low .0) (first s) t);
+  pub walk-goes-on : {first : Stream → ℕ} {before t sum r : ℕ} {times later : List ℕ} → before + 1 ≡ t → IsWalk first table before times sum
+      → IsAdvance periods times (table .count) t later r → IsWalk first table t later (sum + r)
+  walk-goes-on {first} {before} {t} {sum} {r} {times} {later} next walk on = subst (λ (u : ℕ). IsWalk first table u later (sum + r)) next (record {
+    are-next = record {
+      times = λ k low. let s = stream-at table k in
+          there .moved k low ∙ rw (walk .are-next .times k low, has .column k low) (next-step (s .period) (has .range k low .0) (first s) before);
+      room = omega (arith, walk .are-next .room, there .size);
+    };
     counted = omega (
       arith,
-      on .counted,
+      there .counted,
       walk .counted,
-      count-step first (table .streams) times t (table .count) (has .within) (λ k low. has .range k low .0) (walk .times),
+      count-step first (table .streams) times before (table .count) (has .within) (λ k low. has .range k low .0) (walk .are-next .times),
     );
-    room = omega (arith, walk .room, on .size);
-  }
+  })
+    where
+      there : IsAdvance periods times (table .count) (before + 1) later r
+      there = subst (λ (u : ℕ). IsAdvance periods times (table .count) u later r) (sym next) on
+
+  module _ (formed : AllWellFormed (streams-of table)) where
+    -- the walks of the deadlines and of the releases carry the sums of the rules
+    due-walk : {t : ℕ} {dues releases : List ℕ} {sums : Sums} → AreSums table t dues releases sums → IsWalk (λ s. s .deadline) table t dues (sums .demand)
+    due-walk {t} sums = record { are-next = sums .next-dues; counted = sums .demand-is ∙ sym (count-by-demand (streams-of table) t) }
+
+    release-walk : {t : ℕ} {dues releases : List ℕ} {sums : Sums} → AreSums table t dues releases sums → IsWalk (λ s. 1) table t releases (sums .most)
+    release-walk {t} sums = record { are-next = sums .next-releases; counted = sums .most-is ∙ sym (count-by-most-in (streams-of table) formed t) }
+
+    of-walks : {t : ℕ} {dues releases : List ℕ} {sums : Sums} → IsWalk (λ s. s .deadline) table t dues (sums .demand)
+        → IsWalk (λ s. 1) table t releases (sums .most) → (sums .demand ≤ 64 * t) × (sums .most ≤ 64 * t) → AreSums table t dues releases sums
+    of-walks {t} dues releases few = record {
+      demand-is = dues .counted ∙ count-by-demand (streams-of table) t;
+      most-is = releases .counted ∙ count-by-most-in (streams-of table) formed t;
+      next-dues = dues .are-next;
+      next-releases = releases .are-next;
+      few = few;
+    }
+
+    -- at length 0 nothing is counted
+    pub sums-begin : {dues : List ℕ} → ((k : ℕ) → k < table .count → 1 ≤ stream-at table k .deadline) → length dues ≡ 64
+        → ((k : ℕ) → k < table .count → getD dues k 0 ≡ stream-at table k .deadline) → AreSums table 0 dues (replicate 64 1) (record { demand = 0; most = 0 })
+    sums-begin {dues} some size begin =
+        of-walks (walk-begins (λ s. s .deadline) 0 some dues size begin)
+        (walk-begins (λ s. 1) 0 (λ k low. omega arith) (replicate 64 1) refl (λ k low. getD-replicate 64 k 1 0 (omega (arith, has .count))))
+        (omega arith, omega arith)
+
+    -- one length further the sums have grown by the deadlines and the releases that come there
+    pub sums-carried : {before t due all : ℕ} {dues releases dues′ releases′ : List ℕ} {sums : Sums} → before + 1 ≡ t
+        → AreSums table before dues releases sums → IsAdvance periods dues (table .count) t dues′ due
+        → IsAdvance periods releases (table .count) t releases′ all
+        → AreSums table t dues′ releases′ (record { demand = sums .demand + due; most = sums .most + all })
+    sums-carried next sums dues-on releases-on =
+        of-walks (walk-goes-on next (due-walk sums) dues-on) (walk-goes-on next (release-walk sums) releases-on)
+        (omega (arith, sums .few, dues-on .few, has .count), omega (arith, sums .few, releases-on .few, has .count))

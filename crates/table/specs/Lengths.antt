@@ -6,12 +6,14 @@ use Prim.Native.Nat.{ℕ, zero, suc, _+_, _-_, _*_, _≤_, _<_}
 use native.Mathlib.Decide.{ℕ-discrete}
 use lib.ListN.{getD, length}
 use Rattle.rules.specs.Streams.{Stream, WellFormed}
-use Rattle.rules.specs.Demand.{packets-by, DemandRule, StartRule, IsLazyStart}
+use Rattle.rules.specs.Demand.{packets-by, demand, DemandRule, StartRule, IsLazyStart}
+use Rattle.rules.specs.Sums.{AllWellFormed, most-in}
 use Rattle.rules.specs.CountBy.{count-by}
 use Rattle.rules.specs.Busy.{IsBusy}
 use Rattle.table.specs.Table.{streams-of, stream-at, value-of, IsColumn}
 use Rattle.table.specs.Range.{StreamInRange, AreNear}
 use Rattle.table.specs.declared.Table.{Table}
+use Rattle.table.specs.declared.lengths.Sums.{Sums}
 use Rattle.table.specs.declared.Column.{Column}
 use Rattle.table.specs.declared.Column.the-variants.{Period}
 
@@ -50,11 +52,15 @@ pub record CanFindStart (b x latest T : ℕ) (table : Table) : Type 0 where
 unfoldable pub next-after : ℕ → ℕ → ℕ → ℕ
 next-after period first t = first + packets-by period first t * period
 
--- A walk at length t: in each stream's place the first due time after t, and how many due times there are by t. `first` is a stream's first one.
-pub record IsWalk (first : Stream → ℕ) (table : Table) (t : ℕ) (next : List ℕ) (sum : ℕ) : Type 0 where
+-- In each stream's place the first due time after t. `first` is a stream's first one.
+pub record AreNext (first : Stream → ℕ) (table : Table) (t : ℕ) (next : List ℕ) : Type 0 where
   pub times : (k : ℕ) → k < table .count → getD next k 0 ≡ next-after (stream-at table k .period) (first (stream-at table k)) t
-  pub counted : sum ≡ count-by first (streams-of table) t
   pub room : table .count ≤ length next
+
+-- A walk at length t: the next due times, and how many due times there are by t.
+pub record IsWalk (first : Stream → ℕ) (table : Table) (t : ℕ) (next : List ℕ) (sum : ℕ) : Type 0 where
+  pub are-next : AreNext first table t next
+  pub counted : sum ≡ count-by first (streams-of table) t
 
 -- A table with its periods in range, and the column of them.
 pub record HasPeriods (table : Table) (periods : List ℕ) : Type 0 where
@@ -99,3 +105,19 @@ pub record IsAdvance (periods times : List ℕ) (n t : ℕ) (later : List ℕ) (
   pub counted : r ≡ hits-before times t n
   pub few : r ≤ n
   pub size : length later ≡ length times
+
+-- 02 (iv): at length t the sums carried are the rules' own, the demand and the busy length's W(t), and in each stream's place stand the next
+-- deadline and the next release, which they do not count yet. That they are few keeps them within 32 bits.
+pub record AreSums (table : Table) (t : ℕ) (dues releases : List ℕ) (sums : Sums) : Type 0 where
+  pub demand-is : sums .demand ≡ demand (streams-of table) t
+  pub most-is : sums .most ≡ most-in (streams-of table) t
+  pub next-dues : AreNext (λ s. s .deadline) table t dues
+  pub next-releases : AreNext (λ s. 1) table t releases
+  pub few : (sums .demand ≤ 64 * t) × (sums .most ≤ 64 * t)
+
+-- What carrying the sums to length t relies on: they are the rules' at the length before.
+pub record CanCarry (table : Table) (periods dues releases : List ℕ) (t : ℕ) (before : Sums) : Type 0 where
+  pub has : HasPeriods table periods
+  pub formed : AllWellFormed (streams-of table)
+  pub within : (1 ≤ t) × (t ≤ 5040)
+  pub sums : AreSums table (t - 1) dues releases before

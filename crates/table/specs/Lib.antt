@@ -1,10 +1,11 @@
--- Tables of streams in code. A reader has to believe Table, Range and the first definitions of Changes; the rest is proved of them, or is what inner
--- functions promise one another.
+-- Tables of streams in code. A reader has to believe Table, Range and the first definitions of Changes, and of 02 (iv) NoDivision and `AreSums` in Lengths;
+-- the rest is proved of them, or is what inner functions promise one another.
 pub mod Table
 pub mod Range
 pub mod Changes
 pub mod Places
 pub mod Lengths
+pub mod NoDivision
 pub mod Ids
 pub mod TableFacts
 pub mod IdFacts

@@ -1,5 +1,5 @@
 -- The search for the next start over a table: what it may rely on, and what each length that it looks at adds.
-use mathlib.Core.Path.{_≡_, refl, sym, subst, ap, _∙_}
+use mathlib.Core.Path.{_≡_, refl, ap, _∙_}
 use mathlib.Core.List.{List, [], _∷_, List·Mem}
 use Prim.Native.Nat.{ℕ, _+_, _-_, _*_, _≤_, _<_, min}
 use native.Mathlib.Bridge.{le-prop}
@@ -107,9 +107,7 @@ module _ {b x cap first T : ℕ} {table : Table} {periods dues : List ℕ} (can 
   -- where a walk stands when it has gone on to t
   pub walked : {times later : List ℕ} {sum r t : ℕ} → (before : ℕ) × (before + 1 ≡ t) × IsWalk (due-from x) table before times sum
       → IsAdvance periods times (table .count) t later r → IsWalk (due-from x) table t later (sum + r)
-  walked {times} {later} {sum} {r} (before, next, walk) on =
-      subst (λ (u : ℕ). IsWalk (due-from x) table u later (sum + r)) next
-      (walk-goes-on (can .has) walk (subst (λ (u : ℕ). IsAdvance periods times (table .count) u later r) (sym next) on))
+  walked (before, next, walk) on = walk-goes-on (can .has) next walk on
 
   some-due : (t : ℕ) → first ≤ t → 0 < future (streams-of table) t
   some-due t on = le-trans (can .counts) (future-mono (streams-of table) (well-formed (can .can)) first t on)

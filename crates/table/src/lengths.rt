@@ -3,7 +3,7 @@
 ghost use mathlib.Core.Path.{_≡_};
 ghost use Prim.Native.Nat.{_≤_};
 ghost use Rattle.table.specs.Table.{streams-of};
-ghost use Rattle.table.specs.Lengths.{CanNarrow, IsNarrow, CanAdvance, IsAdvance, CanTestDemand, IsBusyLength, hits, after-hit};
+ghost use Rattle.table.specs.Lengths.{CanNarrow, IsNarrow, CanAdvance, IsAdvance, CanCarry, AreSums, CanTestDemand, IsBusyLength, hits, after-hit};
 use super::Column;
 use super::Table;
 use super::column_in_range;
@@ -38,10 +38,10 @@ fn time_after(time: u16, t: u16, period: u16) -> u16
     requires { ⌜ (t ≤ 60_000) × (period ≤ 240) ⌝ }
     ensures { λ r. ⌜ r ≡ after-hit time t period ⌝ }
 {
-    if time == t {
-        return t + period;
+    if time != t {
+        return time;
     }
-    time
+    t + period
 }
 
 // One length further, to t: how many of the first `count` due times fall at t; those move on by their periods.
@@ -60,6 +60,31 @@ pub fn advance(periods: &[u16; 64], times: &mut [u16; 64], count: usize, t: u16)
     sum
 }
 
+// The sums of the test at one length: the demand rule's, and the busy length's.
+struct Sums {
+    demand: u32,
+    most: u32,
+}
+
+// The sums at t, from those at the length before: each deadline and each release that comes at t is added. The table is there for the
+// contract to name; of it only the count is read, and in compiled code nothing else is handed over.
+fn sums_at(
+    table: Table,
+    periods: &[u16; 64],
+    dues: &mut [u16; 64],
+    releases: &mut [u16; 64],
+    t: u16,
+    before: Sums,
+) -> Sums
+    requires { ⌜ CanCarry table (now periods) (now dues) (now releases) t before ⌝ }
+    ensures { λ r. ⌜ AreSums table t (now (dues .exit)) (now (releases .exit)) r ⌝ }
+{
+    Sums {
+        demand: before.demand + advance(periods, dues, table.count, t) as u32,
+        most: before.most + advance(periods, releases, table.count, t) as u32,
+    }
+}
+
 // The busy length, or 0 if the demand rule fails: it is tested at each length up to the busy one.
 pub fn busy_length_in_range(table: Table, slots: u32, frame: u32) -> u32
     requires { ⌜ CanTestDemand slots frame table ⌝ }
@@ -68,19 +93,18 @@ pub fn busy_length_in_range(table: Table, slots: u32, frame: u32) -> u32
     let periods = narrow_column_in_range(table, Column::Period, 0);
     let mut dues = narrow_column_in_range(table, Column::Deadline, 0);
     let mut releases = [1u16; 64];
-    let mut due: u32 = 0;
-    let mut all: u32 = 0;
+    let mut sums = Sums { demand: 0, most: 0 };
     let mut t: u32 = 0;
     while t < frame {
         t += 1;
-        due += advance(&periods, &mut dues, table.count, t as u16) as u32;
-        if slots * t < due {
+        let at = sums_at(table, &periods, &mut dues, &mut releases, t as u16, sums);
+        if slots * t < at.demand {
             return 0;
         }
-        all += advance(&periods, &mut releases, table.count, t as u16) as u32;
-        if all <= slots * t {
+        if at.most <= slots * t {
             return t;
         }
+        sums = at;
     }
     frame
 }

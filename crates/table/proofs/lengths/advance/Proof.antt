@@ -1,10 +1,13 @@
 -- `table::lengths::advance` meets its contract: the times before place i have gone on to t.
+use mathlib.Core.Path.{refl}
 use Prim.Native.Nat.{_-_}
 use native.Mathlib.Omega.{arith}
 use lib.ListN.{getD}
 use Rattle.table.specs.LengthFacts.{GoneOn, none-gone-on, one-more-gone-on, all-gone-on, hits-few, hits-before-few}
+use Rattle.table.specs.NoDivision.{NeverDivides, never-divides}
 use Rattle.table.proofs.lengths.advance.Statement.{statement}
 use Rattle.table.proofs.lengths.advance.Tie as tie
+use Rattle.table.proofs.lengths.advance.Code as code
 
 abbrev Inv-loop : tie.InvT-loop
 Inv-loop periods times₀ count t sum₀ i₀ times sum i = GoneOn periods count t times₀ times sum i
@@ -75,3 +78,8 @@ advance-spec =
     loop-less
     loop-again
     returns)
+
+-- no division, no remainder, and no call but of functions of which the same is proved
+pub no-division : NeverDivides code.function
+unfolding never-divides
+no-division = refl

@@ -1,12 +1,15 @@
 -- `table::start::rounds_from` meets its contract: the rounds counted are never too many.
+use mathlib.Core.Path.{refl}
 use Prim.Native.Nat.{_-_, _*_, _≤_}
 use native.Mathlib.Nat.{mul-le-mul}
 use native.Mathlib.Omega.{arith}
 use Rattle.rules.specs.Demand.{ceil}
 use Rattle.rules.specs.Division.{ceil-least}
 use Rattle.table.specs.SearchFacts.{few-rounds, too-few-rounds}
+use Rattle.table.specs.NoDivision.{NeverDivides, never-divides}
 use Rattle.table.proofs.start.rounds_from.Statement.{statement}
 use Rattle.table.proofs.start.rounds_from.Tie as tie
+use Rattle.table.proofs.start.rounds_from.Code as code
 
 abbrev Inv-loop : tie.InvT-loop
 Inv-loop needed packets slots n₀ n = n ≤ ceil packets slots
@@ -38,3 +41,8 @@ returns c = omega (arith, ceil-least _ _ _ (c .before .before .pre .slots .0) (c
 pub rounds-from-spec : {M : Type 1} → statement M
 rounds-from-spec =
     tie.close (tie.spec Inv-loop μ-loop loop-holds mul-loop add-n loop-less loop-again returns)
+
+-- no division, no remainder, and no call but of functions of which the same is proved
+pub no-division : NeverDivides code.function
+unfolding never-divides
+no-division = refl

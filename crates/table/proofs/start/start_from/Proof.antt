@@ -1,6 +1,6 @@
 -- `table::start::start_from` meets its contract: the lengths before t have been looked at, the walk stands at the length before t, both from
 -- now on, and the rounds needed there are not too many for t.
-use mathlib.Core.Path.{_≡_}
+use mathlib.Core.Path.{_≡_, refl}
 use Prim.Native.Nat.{ℕ, _+_, _-_, _*_, _≤_}
 use native.Mathlib.Nat.{le-trans}
 use native.Mathlib.Omega.{arith}
@@ -15,8 +15,10 @@ use Rattle.table.specs.LengthFacts.{can-advance}
 use Rattle.table.specs.Start.{due-from}
 use Rattle.table.specs.StartFacts.{Looked, looked-none}
 use Rattle.table.specs.SearchFacts.{begins, few-rounds, walked, stops, goes-on, ends}
+use Rattle.table.specs.NoDivision.{LoopsNeverDivide, loops-never-divide}
 use Rattle.table.proofs.start.start_from.Statement.{statement}
 use Rattle.table.proofs.start.start_from.Tie as tie
+use Rattle.table.proofs.start.start_from.Code as code
 
 abbrev Inv-loop : tie.InvT-loop
 Inv-loop table slots now cap first busy periods end times₀ sum₀ needed₀ start₀ t₀ times sum needed start t =
@@ -41,7 +43,7 @@ cast-advance : tie.Need-cast-advance Inv-loop μ-loop
 cast-advance c = omega (arith, c .before .before .before .before .pre .near, c .before .before .before .before .pre .can .short)
 
 advance-requires : tie.Need-advance-requires Inv-loop μ-loop
-advance-requires c κs = can-advance (c .before .before .before .before .pre .has) (c .before .before .before .loop .inv .5 .2) (omega (arith, c .before .before .before .before .pre .near, c .before .before .before .before .pre .can .short))
+advance-requires c κs = can-advance (c .before .before .before .before .pre .has) (c .before .before .before .loop .inv .5 .2 .are-next) (omega (arith, c .before .before .before .before .pre .near, c .before .before .before .before .pre .can .short))
 
 cast-sum : tie.Need-cast-sum Inv-loop μ-loop
 cast-sum c = omega (arith, c .advance .ensures .few, c .before .before .before .before .before .pre .can .count)
@@ -112,3 +114,8 @@ start-from-spec =
     loop-less
     loop-again
     returns-2)
+
+-- the loop over lengths: no division, no remainder, and no call but of functions of which the same is proved
+pub no-division : LoopsNeverDivide code.function
+unfolding loops-never-divide
+no-division = refl

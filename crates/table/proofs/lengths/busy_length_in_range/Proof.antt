@@ -41,21 +41,28 @@ mul-if1 : tie.Need-mul-if1 Inv-loop μ-loop
 mul-if1 c = omega (arith, slots-fit _ _ _ (c .before .before .before .before .before .before .before .before .pre) _ (c .before .before .before .before .loop-test .taken))
 
 returns : tie.Need-returns Inv-loop μ-loop
-returns c = rule-fails _ _ _ (c .before .before .before .before .before .before .before .before .before .before .pre) (c .before .before .before .before .before .before .before .loop .inv) (c .before .before .sums-at .ensures) (c .if1 .taken)
+returns c =
+    let loop = c .before .before .before .before .before .before .before in
+    rule-fails _ _ _ (loop .before .before .before .pre) (loop .loop .inv) (c .before .before .sums-at .ensures) (c .if1 .taken)
 
 mul-if2 : tie.Need-mul-if2 Inv-loop μ-loop
-mul-if2 c = omega (arith, slots-fit _ _ _ (c .before .before .before .before .before .before .before .before .before .before .pre) _ (c .before .before .before .before .before .before .loop-test .taken))
+mul-if2 c =
+    let test = c .before .before .before .before .before .before in
+    omega (arith, slots-fit _ _ _ (test .before .before .before .before .pre) _ (test .loop-test .taken))
 
 returns-2 : tie.Need-returns-2 Inv-loop μ-loop
 returns-2 c =
-    let tested = one-length-more _ _ _ (c .before .before .before .before .before .before .before .before .before .before .before .before .pre) (c .before .before .before .before .before .before .before .before .before .loop .inv) (c .before .before .before .before .sums-at .ensures) (c .before .before .before .before .before .before .before .before .loop-test .taken) (c .before .before .if1 .left) in
-    busy-found _ _ _ (c .before .before .before .before .before .before .before .before .before .before .before .before .pre) tested (omega arith) (c .if2 .taken)
+    let loop = c .before .before .before .before .before .before .before .before .before in
+    let turn = one-length-more _ _ _ (loop .before .before .before .pre) (loop .loop .inv) (c .before .before .before .before .sums-at .ensures) (c .before .before .before .before .before .before .before .before .loop-test .taken) in
+    busy-found _ _ _ (loop .before .before .before .pre) (turn (c .before .before .if1 .left)) (omega arith) (c .if2 .taken)
 
 loop-less : tie.Need-loop-less Inv-loop μ-loop
 loop-less c = omega arith
 
 loop-again : tie.Need-loop-again Inv-loop μ-loop
-loop-again c = one-length-more _ _ _ (c .before .before .before .before .before .before .before .before .before .before .before .before .pre) (c .before .before .before .before .before .before .before .before .before .loop .inv) (c .before .before .before .before .sums-at .ensures) (c .before .before .before .before .before .before .before .before .loop-test .taken) (c .before .before .if1 .left)
+loop-again c =
+    let loop = c .before .before .before .before .before .before .before .before .before in
+    one-length-more _ _ _ (loop .before .before .before .pre) (loop .loop .inv) (c .before .before .before .before .sums-at .ensures) (c .before .before .before .before .before .before .before .before .loop-test .taken) (c .before .before .if1 .left)
 
 returns-3 : tie.Need-returns-3 Inv-loop μ-loop
 returns-3 c = frame-reached _ _ _ (c .before .before .before .before .pre) (c .before .loop .inv) (c .loop-test .left)

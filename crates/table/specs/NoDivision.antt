@@ -1,4 +1,4 @@
--- Code that neither divides nor takes a remainder. A function's code is here what its contract is proved of and what the compiler is given.
+-- Code that neither divides nor takes a remainder. A function's code is here what its contract is proved of, before the compiler's back end.
 use mathlib.Core.Path.{_≡_, refl}
 use mathlib.Core.Bool.{Bool, true, false, _&&_, _||_, So}
 use mathlib.Core.List.{List, [], _∷_}

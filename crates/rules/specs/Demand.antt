@@ -36,12 +36,12 @@ DueAfter now ss = (s : Stream) → List·Mem s ss → now < due s
 abbrev pub ceil : ℕ → ℕ → ℕ
 ceil n b = (n + (b - 1)) / b
 
--- One of "L + G and all t - ceil(h(t) / B) with h(t) > 0". L + G is the cap; x = t - ceil(h(t) / B) is written x + ceil(h(t) / B) = t,
+-- One of the cap, L + 1 + G by 02 (v), "and all t - ceil(h(t) / B) with h(t) > 0". x = t - ceil(h(t) / B) is written x + ceil(h(t) / B) = t,
 -- so that nothing is cut off at 0.
 abbrev pub Candidate : ℕ → ℕ → List Stream → ℕ → Type 0
 Candidate b cap ss x = (x ≡ cap) ⊎ ((t : ℕ) × (0 < future ss t) × (x + ceil (future ss t) b ≡ t))
 
--- 01: "Lazy rule: the next start is the least of L + G and all t - ceil(h(t) / B) with h(t) > 0".
+-- 01: "Lazy rule: the next start is the least of" the cap, L + 1 + G by 02 (v), "and all t - ceil(h(t) / B) with h(t) > 0".
 pub record IsLazyStart (b cap : ℕ) (ss : List Stream) (start : ℕ) : Type 0 where
   pub one-of-them : Candidate b cap ss start
   pub by-cap : start ≤ cap

@@ -20,25 +20,31 @@ use Rattle.rules.specs.Tests.{is-table, is-busy, keeps-demand, is-ready,
 unfoldable pub stream : ℕ → ℕ → ℕ → ℕ → Stream
 stream number s p d = record { number = number; period = p; deadline = d; release = s }
 
--- The state of a planner opened at T with gap G, with these streams.
+-- The state of a planner opened at T with gap G, with these streams. The cap is L + 1 + G, by 02 (v).
 unfoldable pub opened : ℕ → ℕ → List Stream → State
 unfolding stream
-opened T G ss = record { now = T + 1; cap = T + G; table = ss }
+opened T G ss = record { now = T + 1; cap = T + 1 + G; table = ss }
 
--- Round n of the lazy run, as its start and the numbers in its slots.
+-- A round, as its start and the numbers in its slots.
 pub record Line : Type 0 where
   pub start : ℕ
   pub numbers : List ℕ
 
+-- Round n of the lazy run with B = b and gap G. G is counted from the end of a round: from start to start it is at most G + 1.
 unfoldable pub line : ℕ → ℕ → ℕ → State → ℕ → Line
 unfolding lazy-starts lazy-state start-from lazy-start least-of latest first-due future packets-by slots in-order put-in-order goes-before riders after-round decLt Dec·and ℕ-discrete
-line b gap T st n =
-    record { start = lazy-starts b gap T st n; numbers = map (λ (x : Stream). x .number) (slots b (lazy-starts b gap T st n) (lazy-state b gap T st n .table)) }
+line b G T st n =
+    let start = lazy-starts b (G + 1) T st n in
+    record { start = start; numbers = map (λ (x : Stream). x .number) (slots b start (lazy-state b (G + 1) T st n .table)) }
 
--- A state that the tests find ready is the beginning of lazy rounds for ever, and `line` lists them.
-lazy-from : (b gap T : ℕ) (st : State) → 1 ≤ b → 1 ≤ gap → So (is-ready b (st .now) (st .table) T) → st .now ≤ st .cap → IsLazyRun b gap st (lazy-starts b gap T st)
-lazy-from b gap T st positive gap-positive tested open-cap =
-    lazy-run-exists b gap T positive gap-positive st
+-- The starts that `line` lists are those of lazy rounds for ever.
+abbrev pub ListsLazyRun : ℕ → ℕ → ℕ → State → Type 0
+ListsLazyRun b G T st = IsLazyRun b (G + 1) st (lazy-starts b (G + 1) T st)
+
+-- So they are from a state that the tests find ready.
+lazy-from : (b G T : ℕ) (st : State) → 1 ≤ b → So (is-ready b (st .now) (st .table) T) → st .now ≤ st .cap → ListsLazyRun b G T st
+lazy-from b G T st positive tested open-cap =
+    lazy-run-exists b (G + 1) T positive (omega arith) st
     (record { ready = tested-ready b (st .now) T (st .table) tested; open-cap = open-cap })
     (is-ready-busy b (st .now) T (st .table) tested)
 
@@ -52,9 +58,9 @@ pub three-rounds : map (line 2 6 2 three-streams) (0 ∷ 1 ∷ 2 ∷ []) ≡ rec
 unfolding three-streams line
 three-rounds = refl
 
-pub three-rounds-lazy : IsLazyRun 2 6 three-streams (lazy-starts 2 6 2 three-streams)
+pub three-rounds-lazy : ListsLazyRun 2 6 2 three-streams
 unfolding three-streams is-ready
-three-rounds-lazy = lazy-from 2 6 2 three-streams (omega arith) (omega arith) refl (omega arith)
+three-rounds-lazy = lazy-from 2 6 2 three-streams (omega arith) refl (omega arith)
 
 -- 01: "B=1, F=2, G=9, T=0: stream 1 (1,2,1) goes in; 2 (2,2,1) gets 12."
 pub first-fits : DemandRule 1 (stream 1 1 2 1 ∷ [])
@@ -103,9 +109,9 @@ pub by-release : map (line 1 20 3 due-together) (0 ∷ 1 ∷ 2 ∷ []) ≡ recor
 unfolding due-together line
 by-release = refl
 
-pub by-release-lazy : IsLazyRun 1 20 due-together (lazy-starts 1 20 3 due-together)
+pub by-release-lazy : ListsLazyRun 1 20 3 due-together
 unfolding due-together is-ready
-by-release-lazy = lazy-from 1 20 3 due-together (omega arith) (omega arith) refl (omega arith)
+by-release-lazy = lazy-from 1 20 3 due-together (omega arith) refl (omega arith)
 
 -- In one round they are listed so too: with two slots 3 and 2, then 1.
 pub listed-by-release : map (line 2 20 2 due-together) (0 ∷ 1 ∷ []) ≡ record { start = 7; numbers = 3 ∷ 2 ∷ [] } ∷ record { start = 8; numbers = 1 ∷ [] } ∷ []
@@ -121,18 +127,18 @@ pub by-number : map (line 1 20 3 three-alike) (0 ∷ 1 ∷ 2 ∷ []) ≡ record 
 unfolding three-alike line
 by-number = refl
 
--- 01: "B=1, F=240, G=20, T=0, one (1,240,240): rounds at 20 with it, then 40 with no slot."
+-- 01: "B=1, F=240, G=20, T=0, one (1,240,240)": by 02 (v) rounds at 21 with it, then 42 with no slot.
 unfoldable pub long-period : State
 unfolding opened
 long-period = opened 0 20 (stream 1 1 240 240 ∷ [])
 
-pub long-period-rounds : map (line 1 20 1 long-period) (0 ∷ 1 ∷ []) ≡ record { start = 20; numbers = 1 ∷ [] } ∷ record { start = 40; numbers = [] } ∷ []
+pub long-period-rounds : map (line 1 20 1 long-period) (0 ∷ 1 ∷ []) ≡ record { start = 21; numbers = 1 ∷ [] } ∷ record { start = 42; numbers = [] } ∷ []
 unfolding long-period line
 long-period-rounds = refl
 
-pub long-period-lazy : IsLazyRun 1 20 long-period (lazy-starts 1 20 1 long-period)
+pub long-period-lazy : ListsLazyRun 1 20 1 long-period
 unfolding long-period is-ready
-long-period-lazy = lazy-from 1 20 1 long-period (omega arith) (omega arith) refl (omega arith)
+long-period-lazy = lazy-from 1 20 1 long-period (omega arith) refl (omega arith)
 
 -- 01: "T=999,999,999, B=1, F=1, G=1, one (1,000,000,000,1,1): a round, then 17": the next start is past 1,000,000,000.
 unfoldable pub clock-end : State
@@ -143,9 +149,9 @@ pub clock-end-rounds : map (line 1 1 1 clock-end) (0 ∷ 1 ∷ []) ≡ record { 
 unfolding clock-end line
 clock-end-rounds = refl
 
-pub clock-end-lazy : IsLazyRun 1 1 clock-end (lazy-starts 1 1 1 clock-end)
+pub clock-end-lazy : ListsLazyRun 1 1 1 clock-end
 unfolding clock-end is-ready
-clock-end-lazy = lazy-from 1 1 1 clock-end (omega arith) (omega arith) refl (omega arith)
+clock-end-lazy = lazy-from 1 1 1 clock-end (omega arith) refl (omega arith)
 
 -- count streams of the same S, P and D, numbered from `number` on
 unfoldable pub alike : ℕ → ℕ → ℕ → ℕ → ℕ → List Stream

@@ -24,7 +24,8 @@ pub record IsPlan (b moment : ℕ) (plan : ℕ → Round) : Type 0 where
 abbrev pub Serves : (ℕ → Round) → List Stream → Type 0
 Serves plan ss = (q : Packet) → PacketOf ss q → ∥ ((n : ℕ) × List·Mem q (plan n .packets)) ∥₁
 
--- 01: "It keeps the gap limit if its first start is at most L + G and each later start at most G after the one before it." L + G is the cap.
+-- It keeps the gap limit if its first start is at most the cap and each later one at most the gap after the start before it. By 02 (v) the cap is
+-- L + 1 + G and that gap G + 1: G is counted from the end of a round.
 pub record KeepsGap (cap gap : ℕ) (plan : ℕ → Round) : Type 0 where
   pub first : plan 0 .start ≤ cap
   pub later : (n : ℕ) → plan (suc n) .start ≤ plan n .start + gap

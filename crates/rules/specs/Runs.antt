@@ -17,7 +17,7 @@ pub record State : Type 0 where
 abbrev pub round-at : ℕ → State → ℕ → Round
 round-at b st s = record { start = s; packets = map (λ (x : Stream). packet x 0) (slots b s (st .table)) }
 
--- The state after it: now is one past its start, the cap a gap past its start.
+-- The state after it: now is one past its start, the cap a gap past its start. A planner's G is counted from its end: the gap here is G + 1.
 abbrev pub after : ℕ → ℕ → State → ℕ → State
 after b gap st s = record { now = s + 1; cap = s + gap; table = after-round b s (st .table) }
 

@@ -158,16 +158,16 @@ module _ {p : Planner} {id start period deadline : ℕ} (can : CanTest p id star
     pub can-test-table : CanTestDemand (p .slots) (p .frame) table
     can-test-table = can-test-demand offered-table (sound-numbers p (can .sound)) its-range
 
-    pub can-find-table : {busy : ℕ} → IsBusyLength (p .slots) (streams-of table) busy → 1 ≤ busy → CanFindStart (p .slots) (p .last + 1) (p .last + p .gap) busy table
-    can-find-table {busy} is-busy some = can-find-start offered-table (sound-numbers p (can .sound)) its-range busy is-busy some
+    pub can-find-table : {busy : ℕ} → IsBusyLength (p .slots) (streams-of table) busy → 1 ≤ busy → CanFindStart (p .slots) (p .last + 1) (p .last + 1) busy table
+    can-find-table {busy} is-busy some = can-find-start offered-table (sound-numbers p (can .sound)) its-range busy is-busy (omega arith) some
 
     -- .. and the answers are those for what the planner would hold
     pub busy-of-added : {r : ℕ} → IsBusyLength (p .slots) (streams-of table) r → IsBusyLength (p .slots) (added (content p) id start period deadline .table) r
     busy-of-added {r} = subst (λ (ss : List Stream). IsBusyLength (p .slots) ss r) (has .streams)
 
-    pub start-of-added : {r : ℕ} → IsNextStart (p .slots) (p .last + 1) (p .last + p .gap) (streams-of table) r
-        → IsNextStart (p .slots) (p .last + 1) (p .last + p .gap) (added (content p) id start period deadline .table) r
-    start-of-added {r} = subst (λ (ss : List Stream). IsNextStart (p .slots) (p .last + 1) (p .last + p .gap) ss r) (has .streams)
+    pub start-of-added : {cap r : ℕ} → IsNextStart (p .slots) (p .last + 1) cap (streams-of table) r
+        → IsNextStart (p .slots) (p .last + 1) cap (added (content p) id start period deadline .table) r
+    start-of-added {cap} {r} = subst (λ (ss : List Stream). IsNextStart (p .slots) (p .last + 1) cap ss r) (has .streams)
 
 -- the planner with that table and the entry in its queue is sound
 pub taken-in : {p : Planner} {id start period deadline : ℕ} → CanAdd p id start period deadline

@@ -20,9 +20,13 @@ content p = record { slots = p .slots; frame = p .frame; gap = p .gap; last = p 
 abbrev pub now-of : Content → ℕ
 now-of h = h .last + 1
 
--- 01: "L + G", the latest next start.
+-- 02 (v): the latest next start is L + 1 + G, since the gap runs from the end of the last round, which is now.
 abbrev pub cap-of : Content → ℕ
-cap-of h = h .last + h .gap
+cap-of h = now-of h + h .gap
+
+-- 02 (v): from a start to the next it is at most G + 1, since a round ends one after its start.
+abbrev pub start-gap-of : Content → ℕ
+start-gap-of h = h .gap + 1
 
 -- The same numbers with another table.
 abbrev pub with-table : Content → List Stream → Content

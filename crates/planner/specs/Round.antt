@@ -17,7 +17,7 @@ use Rattle.planner.specs.Calls.{unsound, IsSoundWith}
 use Rattle.planner.specs.declared.Planner.{Planner}
 use Rattle.planner.specs.declared.Rounded.{Rounded}
 
--- The start that the lazy rule gives: "the least of L + G and all t - ceil(h(t) / B) with h(t) > 0".
+-- The start that the lazy rule gives: the least of L + 1 + G "and all t - ceil(h(t) / B) with h(t) > 0".
 abbrev pub IsStart : Content → ℕ → Type 0
 IsStart h s = IsLazyStart (h .slots) (cap-of h) (h .table) s
 

@@ -1,5 +1,5 @@
 -- The facts that the test of soundness rests on.
-use mathlib.Core.Path.{_≡_, sym, _∙_}
+use mathlib.Core.Path.{_≡_, sym, subst, _∙_}
 use mathlib.Core.Bool.{Bool}
 use mathlib.Core.Logic.{_↔_, Iff·trans, Iff·symm, ∥∥₁-elim, ∥∥₁-map, ∥∥₁-prop}
 use mathlib.Core.List.{List, List·Mem}
@@ -9,6 +9,7 @@ use native.Mathlib.Omega.{arith}
 use lib.ListN.{length, take, length-map, length-take}
 use Rattle.basics.specs.Decides.{Decides, same-as}
 use Rattle.rules.specs.Streams.{Stream, due}
+use Rattle.rules.specs.Demand.{IsLazyStart}
 use Rattle.table.specs.Table.{stream-of, streams-of, stream-at, IsColumn, CanRead}
 use Rattle.table.specs.TableFacts.{stream-at-mem, all-streams}
 use Rattle.table.specs.Ids.{IsIds}
@@ -24,6 +25,7 @@ use Rattle.queue.specs.EntryFacts.{entry-path}
 use Rattle.queue.specs.Layout.{entries}
 use Rattle.queue.specs.Layout
 use Rattle.queue.specs.declared.Queue.{Queue}
+use Rattle.planner.specs.Content.{content, now-of, cap-of}
 use Rattle.planner.specs.Sound.{entry-of, Sound}
 use Rattle.planner.specs.OpenFacts.{NumbersInRange}
 use Rattle.planner.specs.Inner.{IsSoundStart, CanCompare, IsFiled}
@@ -101,13 +103,14 @@ module _ (p : Planner) (numbers : NumbersInRange (p .slots) (p .frame) (p .gap) 
   can-test-demand = record { count = range .count; slots = numbers .slots; frame = numbers .frame; streams = range .streams .each }
 
   module _ (busy : ℕ) (is-busy : IsBusyLength (p .slots) (streams-of (p .table)) busy) where
-    pub can-find-start : 1 ≤ busy → CanFindStart (p .slots) (p .last + 1) (p .last + p .gap) busy (p .table)
-    can-find-start some =
+    -- a start can be looked for under any cap that is not before now
+    pub can-find-start : {cap : ℕ} → now-of (content p) ≤ cap → 1 ≤ busy → CanFindStart (p .slots) (p .last + 1) cap busy (p .table)
+    can-find-start open-cap some =
         record {
           count = range .count;
           slots = numbers .slots;
           now = (omega arith, omega (arith, numbers .last));
-          cap = omega (arith, numbers .gap);
+          cap = open-cap;
           formed = λ s m. let each = range .streams .each s m in (each .deadline, each .period .1);
           near = range .near;
           busy = is-busy .busy some;
@@ -115,8 +118,9 @@ module _ (p : Planner) (numbers : NumbersInRange (p .slots) (p .frame) (p .gap) 
         }
 
     -- with the table in range and filed, the two rules decide
-    pub start-found : 1 ≤ busy → IsFiled (p .table) (p .queue) → (r : ℕ) → IsNextStart (p .slots) (p .last + 1) (p .last + p .gap) (streams-of (p .table)) r → IsSoundStart p r
-    start-found some filed r is-start =
+    pub start-found : 1 ≤ busy → IsFiled (p .table) (p .queue) → {cap : ℕ} (r : ℕ) → IsNextStart (p .slots) (p .last + 1) cap (streams-of (p .table)) r → cap ≡ cap-of (content p)
+        → IsSoundStart p r
+    start-found some filed r is-start is-cap =
         record {
           unsound = λ zero sound. is-start .fails zero (sound .content-sound .start-rule);
           sound = λ found.
@@ -140,5 +144,5 @@ module _ (p : Planner) (numbers : NumbersInRange (p .slots) (p .frame) (p .gap) 
                 queue-sound = filed .0;
                 files = filed .1;
               };
-          start = is-start .lazy;
+          start = λ found. subst (λ (cap : ℕ). IsLazyStart (p .slots) cap (streams-of (p .table)) r) is-cap (is-start .lazy found);
         }

@@ -69,7 +69,9 @@ fn rule_refusal_sound(p: Planner, id: u32, start: u32, period: u32, deadline: u3
     if busy == 0 {
         return 12;
     }
-    if table::next_start_in_range(table, p.slots, p.last + 1, p.last + p.gap, busy) == 0 {
+    // Whether there is a start does not depend on the cap, if that is not before now: now is given for it.
+    let now = p.last + 1;
+    if table::next_start_in_range(table, p.slots, now, now, busy) == 0 {
         return 13;
     }
     0

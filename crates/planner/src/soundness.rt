@@ -37,5 +37,6 @@ pub fn sound_start(p: Planner) -> u32
     if busy == 0 {
         return 0;
     }
-    table::next_start_in_range(table, p.slots, now, p.last + p.gap, busy)
+    // The gap runs from the end of the last round, which is now. The sum is at most 1,000,000,256.
+    table::next_start_in_range(table, p.slots, now, now + p.gap, busy)
 }

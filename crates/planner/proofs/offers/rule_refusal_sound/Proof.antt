@@ -2,7 +2,8 @@
 use native.Mathlib.Omega.{arith}
 use Rattle.basics.specs.Refusals.{none, here, later, first-is-answer}
 use Rattle.rules.specs.Demand.{DemandRule}
-use Rattle.planner.specs.Content.{content}
+use Rattle.table.specs.Lengths.{IsNextStart}
+use Rattle.planner.specs.Content.{content, now-of}
 use Rattle.planner.specs.Calls.{added}
 use Rattle.planner.specs.AddFacts.{can-test-table, can-find-table, busy-of-added, start-of-added}
 use borrow.Author.Needs.{needs}
@@ -19,23 +20,29 @@ returns : tie.Need-returns
 returns c = first-is-answer (here (busy-of-added (c .before .before .before .pre) (c .before .before .table-with-sound .ensures) (c .before .busy-length-in-range .ensures) .fails (c .if1 .taken)))
 
 -- with a busy length the demand rule holds
-demand-kept : (c : tie.Else1) → DemandRule (c .before .before .before .args .p .slots) (added (content (c .before .before .before .args .p)) (c .before .before .before .args .id) (c .before .before .before .args .start) (c .before .before .before .args .period) (c .before .before .before .args .deadline) .table)
+demand-kept : (c : tie.Else1) → let a = c .before .before .before .args in DemandRule (a .p .slots) (added (content (a .p)) (a .id) (a .start) (a .period) (a .deadline) .table)
 demand-kept c = busy-of-added (c .before .before .before .pre) (c .before .before .table-with-sound .ensures) (c .before .busy-length-in-range .ensures) .holds (omega (arith, c .if1 .left))
 
-add-next-start-in-range : tie.Need-add-next-start-in-range
-add-next-start-in-range c = search needs
-
-add-next-start-in-range-2 : tie.Need-add-next-start-in-range-2
-add-next-start-in-range-2 c = search needs
+add-now : tie.Need-add-now
+add-now c = search needs
 
 next-start-in-range-requires : tie.Need-next-start-in-range-requires
-next-start-in-range-requires c κs = can-find-table (c .before .before .before .before .before .pre) (c .before .before .before .before .table-with-sound .ensures) (c .before .before .before .busy-length-in-range .ensures) (omega (arith, c .before .before .if1 .left))
+next-start-in-range-requires c κs =
+    let begun = c .before .before .before in
+    can-find-table (begun .before .pre) (begun .table-with-sound .ensures) (c .before .before .busy-length-in-range .ensures) (omega (arith, c .before .if1 .left))
+
+-- the start looked for is one of what the planner would hold
+start-answered : (c : tie.After-next-start-in-range) → let a = c .before .before .before .before .before .args in
+    let q = added (content (a .p)) (a .id) (a .start) (a .period) (a .deadline) in IsNextStart (q .slots) (now-of q) (now-of q) (q .table) (c .next-start-in-range .result)
+start-answered c = let begun = c .before .before .before .before in start-of-added (begun .before .pre) (begun .table-with-sound .ensures) (c .next-start-in-range .ensures)
 
 returns-2 : tie.Need-returns-2
-returns-2 c = first-is-answer (later (λ bad. bad (demand-kept (c .before .before .before .before))) (here (start-of-added (c .before .before .before .before .before .before .before .pre) (c .before .before .before .before .before .before .table-with-sound .ensures) (c .before .next-start-in-range .ensures) .fails (c .if2 .taken))))
+returns-2 c = first-is-answer (later (λ bad. bad (demand-kept (c .before .before .before))) (here (start-answered (c .before) .fails (c .if2 .taken))))
 
 returns-3 : tie.Need-returns-3
-returns-3 c = first-is-answer (later (λ bad. bad (demand-kept (c .before .before .before .before))) (later (λ bad. bad (start-of-added (c .before .before .before .before .before .before .before .pre) (c .before .before .before .before .before .before .table-with-sound .ensures) (c .before .next-start-in-range .ensures) .holds (omega (arith, c .if2 .left)))) none))
+returns-3 c =
+    first-is-answer
+    (later (λ bad. bad (demand-kept (c .before .before .before))) (later (λ bad. bad (start-answered (c .before) .holds (omega (arith, c .if2 .left)))) none))
 
 pub rule-refusal-sound-spec : {M : Type 1} → statement M
 rule-refusal-sound-spec =
@@ -44,8 +51,7 @@ rule-refusal-sound-spec =
     table-with-sound-requires
     busy-length-in-range-requires
     returns
-    add-next-start-in-range
-    add-next-start-in-range-2
+    add-now
     next-start-in-range-requires
     returns-2
     returns-3)

@@ -58,7 +58,7 @@ Holds (superframe-case periods answer value) = (r : ℕ) → r ≡ packed (super
 -- 01: "The three rounds above": O,2,6,6,0 / A,1,1,3,2 / A,2,1,6,6 / A,3,2,6,5 / R / R / R print R,0,2,2,1,2 / R,0,5,2,1,3 / R,0,8,2,1,2.
 -- "B=1, F=2, G=9, T=0: stream 1 (1,2,1) goes in; 2 (2,2,1) gets 12."
 -- "B=1, F=10, G=20, T=0, streams 1 and 2 both (1,10,10): round at 9 sends 1. Then 3 as (10,10,1) gets 13; as (11,10,1) 0."
--- "B=1, F=240, G=20, T=0, one (1,240,240): rounds at 20 with it, then 40 with no slot."
+-- "B=1, F=240, G=20, T=0, one (1,240,240)": by 02 (v) rounds at 21 with it, then 42 with no slot.
 -- "T=999,999,999, B=1, F=1, G=1, one (1,000,000,000,1,1): a round, then 17."
 -- "Superframe of 5, 7, 15 is 105; of 240, 7, 9 is 5,040; of 240, 7, 11 gets 19."
 unfoldable pub starred : List Case
@@ -68,23 +68,31 @@ starred =
     ∷ planner-case 1 2 9 0 (add-gives 1 1 2 1 0 ∷ add-gives 2 2 2 1 12 ∷ [])
     ∷ planner-case 1 10 20 0
     (add-gives 1 1 10 10 0 ∷ add-gives 2 1 10 10 0 ∷ round-gives 9 1 (1 ∷ []) ∷ add-gives 3 10 10 1 13 ∷ add-gives 3 11 10 1 0 ∷ [])
-    ∷ planner-case 1 240 20 0 (add-gives 1 1 240 240 0 ∷ round-gives 20 1 (1 ∷ []) ∷ round-gives 40 0 [] ∷ [])
+    ∷ planner-case 1 240 20 0 (add-gives 1 1 240 240 0 ∷ round-gives 21 1 (1 ∷ []) ∷ round-gives 42 0 [] ∷ [])
     ∷ planner-case 1 1 1 999_999_999 (add-gives 1 1_000_000_000 1 1 0 ∷ round-gives 1_000_000_000 1 (1 ∷ []) ∷ round-refused 17 ∷ [])
     ∷ superframe-case (5 ∷ 7 ∷ 15 ∷ []) 0 105
     ∷ superframe-case (240 ∷ 7 ∷ 9 ∷ []) 0 5040
     ∷ superframe-case (240 ∷ 7 ∷ 11 ∷ []) 19 0
     ∷ []
 
--- Document 02, worked out. (i): O,2,6,6,0 / R / R / R / A,1,19,3,2 / R / D,1 / R print R,0,6,0 / R,0,12,0 / R,0,18,0, then with the stream
--- R,0,20,1,1, since its packet is due at 21, and without it R,0,26,0, at the cap again.
--- B=2, F=6, G=2, T=999,999,998: a round at 1,000,000,000, then 17.
+-- Document 02, worked out. (i) and (v): O,2,6,6,0 / R / R / R / A,1,22,3,2 / R / D,1 / R print R,0,7,0 / R,0,14,0 / R,0,21,0, then with the
+-- stream R,0,23,1,1, since its packet is due at 24, and without it R,0,30,0, at the cap again.
+-- B=2, F=6, G=2: with T=999,999,997 a round at 1,000,000,000, then 17; with T=999,999,998, where L + G is in time, 17 at once.
+-- (v), B=1, F=12, T=0, G=1: rounds at 2 and 4; G=255: at 256 and 512. G=5, one stream (1,12,D), due at D + 1: D=5 is sent at 5, D=6 and D=7 at
+-- the cap, 6.
 -- (ii), F=12, G=20, T=0, all due at 9. B=1, streams 1 (5,12,4) and 2 (1,12,8): a round at 7 sends 2, one at 8 sends 1; by id alone it would be 1, 2.
 -- B=2, with 2 as (3,12,6) and 3 as (1,12,8): at 7 the ids are 3, 2, at 8 it is 1. B=1, streams 9, 4 and 7, each (1,12,8): 4 at 6, 7 at 7, 9 at 8.
 unfoldable pub later : List Case
 later =
     planner-case 2 6 6 0
-    (round-gives 6 0 [] ∷ round-gives 12 0 [] ∷ round-gives 18 0 [] ∷ add-gives 1 19 3 2 0 ∷ round-gives 20 1 (1 ∷ []) ∷ remove-gives 1 0 ∷ round-gives 26 0 [] ∷ [])
-    ∷ planner-case 2 6 2 999_999_998 (round-gives 1_000_000_000 0 [] ∷ round-refused 17 ∷ [])
+    (round-gives 7 0 [] ∷ round-gives 14 0 [] ∷ round-gives 21 0 [] ∷ add-gives 1 22 3 2 0 ∷ round-gives 23 1 (1 ∷ []) ∷ remove-gives 1 0 ∷ round-gives 30 0 [] ∷ [])
+    ∷ planner-case 2 6 2 999_999_997 (round-gives 1_000_000_000 0 [] ∷ round-refused 17 ∷ [])
+    ∷ planner-case 2 6 2 999_999_998 (round-refused 17 ∷ [])
+    ∷ planner-case 1 12 1 0 (round-gives 2 0 [] ∷ round-gives 4 0 [] ∷ [])
+    ∷ planner-case 1 12 255 0 (round-gives 256 0 [] ∷ round-gives 512 0 [] ∷ [])
+    ∷ planner-case 1 12 5 0 (add-gives 1 1 12 5 0 ∷ round-gives 5 1 (1 ∷ []) ∷ [])
+    ∷ planner-case 1 12 5 0 (add-gives 1 1 12 6 0 ∷ round-gives 6 1 (1 ∷ []) ∷ [])
+    ∷ planner-case 1 12 5 0 (add-gives 1 1 12 7 0 ∷ round-gives 6 1 (1 ∷ []) ∷ [])
     ∷ planner-case 1 12 20 0 (add-gives 1 5 12 4 0 ∷ add-gives 2 1 12 8 0 ∷ round-gives 7 1 (2 ∷ []) ∷ round-gives 8 1 (1 ∷ []) ∷ [])
     ∷ planner-case 2 12 20 0 (add-gives 1 5 12 4 0 ∷ add-gives 2 3 12 6 0 ∷ add-gives 3 1 12 8 0 ∷ round-gives 7 2 (3 ∷ 2 ∷ []) ∷ round-gives 8 1 (1 ∷ []) ∷ [])
     ∷ planner-case 1 12 20 0

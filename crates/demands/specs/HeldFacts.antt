@@ -10,15 +10,15 @@ use lib.ListN.{length, take, drop, getD, length-map, List·getD-map}
 use lib.Seq.{take-at}
 use Rattle.rules.specs.Streams.{Stream, Packet, packet, MayRide, PacketOf}
 use Rattle.rules.specs.Slots.{slots, served, Served, passed, after-round}
-use Rattle.rules.specs.Plans.{Round, IsRival}
-use Rattle.rules.specs.Runs.{State, Held, none, then, round-at}
+use Rattle.rules.specs.Plans.{Round}
+use Rattle.rules.specs.Runs.{State, Held, none, then, round-at, after}
 use Rattle.rules.specs.Sums.{Fits}
 use Rattle.rules.specs.SlotFacts.{IsChoice, choice-differ}
 use Rattle.rules.specs.RoundKept.{round-choice, served-iff}
 use Rattle.rules.specs.PacketFacts.{advanced, advanced-none, packet-advanced, packet-due-after}
 use Rattle.rules.specs.Calls.{IsReadyState}
 use Rattle.rules.specs.Fewest.{held-fewest}
-use Rattle.planner.specs.Content.{Content, content, now-of, cap-of}
+use Rattle.planner.specs.Content.{Content, content, now-of, cap-of, start-gap-of}
 use Rattle.planner.specs.Sound.{ContentSound, Sound}
 use Rattle.planner.specs.SoundFacts.{all-formed, content-ready}
 use Rattle.planner.specs.Round.{IsStart, StartsLate, ids-at, rounded, IsHeldRound}
@@ -26,6 +26,7 @@ use Rattle.planner.specs.CallFacts.{refused-change, refused-round, success-roun
 use Rattle.planner.specs.declared.Planner.{Planner}
 use Rattle.planner.specs.declared.Rounded.{Rounded}
 use Rattle.demands.specs.Calls.{HeldRound, held-round, Calls, none, add, remove, refused, held, ClockEnded, times-in, times-sent, IsSentInTime, end-of, start-of}
+use Rattle.demands.specs.Rivals.{IsRivalOf}
 use Rattle.demands.specs.CallFacts.{stands-once, stands-never, times-sent-snoc, passes-as-sent, last-of, last-snoc, last-is-end}
 
 -- a stream with the packets sent that the rounds say
@@ -47,7 +48,7 @@ state-of h = record { now = now-of h; cap = cap-of h; table = h .table }
 pub record Follows (h : Content) (rounds : List HeldRound) (c : Content) : Type 0 where
   pub holds : c ≡ after-rounds h rounds
   pub played : List Round
-  pub lazy : Held (h .slots) (h .gap) (state-of h) played (state-of c)
+  pub lazy : Held (h .slots) (start-gap-of h) (state-of h) played (state-of c)
   pub starts : map (λ (r : Round). r .start) played ≡ map (λ (r : HeldRound). r .start) rounds
   pub in-time : (s : Stream) → List·Mem s (h .table) → (m : ℕ) → m < times-sent (s .number) rounds → IsSentInTime rounds s m
 
@@ -103,13 +104,19 @@ module _ (h : Content) (rounds : List HeldRound) (sound : ContentSound (after-ro
           let m-th : times-sent (x .number) rounds + 0 ≡ m = omega (arith, from, below, stands-once (x .number) (ids-at so-far s) ids-differ here) in
           subst (λ (q : Packet). MayRide q s) (packet-advanced x (times-sent (x .number) rounds) 0 ∙ ap (packet x) m-th) (is-choice .ride y slot)
 
+  -- the cap of the theory's next state, counted from the round's start, is the planner's, counted from its end
+  state-after : after (h .slots) (start-gap-of h) (state-of so-far) s ≡ state-of (rounded so-far s)
+  state-after = ap (λ (cap : ℕ). record { now = s + 1; cap = cap; table = rounded so-far s .table }) (omega arith)
+
   -- the round follows those before it
   one-more : Follows h rounds so-far → Follows h (rounds ++ (slots-round so-far s ∷ [])) (rounded so-far s)
   one-more follows =
       record {
         holds = one-more-holds;
         played = follows .played ++ (round-at (h .slots) (state-of so-far) s ∷ []);
-        lazy = then (follows .lazy) s start;
+        lazy =
+            subst (Held (h .slots) (start-gap-of h) (state-of h) (follows .played ++ (round-at (h .slots) (state-of so-far) s ∷ []))) state-after
+            (then (follows .lazy) s start);
         starts =
             map-append (λ (r : Round). r .start) (follows .played) (round-at (h .slots) (state-of so-far) s ∷ [])
             ∙ ap (λ (xs : List ℕ). xs ++ (s ∷ [])) (follows .starts)
@@ -191,10 +198,9 @@ module _ (h : Content) (rounds : List HeldRound) (c : Content) (follows : Follow
   now-is-end = ap now-of (follows .holds) ∙ last-is-end (h .last) rounds
 
   -- no rival starts a round later
-  pub rival-never-later : ContentSound h → (plan : ℕ → Round) → IsRival (h .slots) (now-of h) (cap-of h) (h .gap) (h .table) plan → (k : ℕ) → k < length rounds
+  pub rival-never-later : ContentSound h → (plan : ℕ → Round) → IsRivalOf h plan → (k : ℕ) → k < length rounds
       → plan k .start ≤ start-of rounds k
   rival-never-later sound plan rival k below =
-      let gap = sound .in-range .gap .0 in
       let ready : IsReadyState (h .slots) (state-of h) = record { ready = content-ready h sound; open-cap = omega arith } in
       let many : length (follows .played) ≡ length rounds =
       sym (length-map (follows .played) (λ (r : Round). r .start)) ∙ ap (length {A = ℕ}) (follows .starts) ∙ length-map rounds (λ (r : HeldRound). r .start) in
@@ -202,4 +208,4 @@ module _ (h : Content) (rounds : List HeldRound) (c : Content) (follows : Follow
       sym (List·getD-map (λ (r : Round). r .start) (follows .played) k (record { start = 0; packets = [] })) ∙ ap (λ (xs : List ℕ). getD xs k 0) (follows .starts)
       ∙ List·getD-map (λ (r : HeldRound). r .start) rounds k (record { start = 0; ids = [] }) in
       subst (λ (x : ℕ). plan k .start ≤ x) same
-      (held-fewest (h .slots) (h .gap) (sound .in-range .slots .0) gap (state-of h) ready plan rival (follows .lazy) k (subst⁻¹ (λ (n : ℕ). k < n) many below))
+      (held-fewest (h .slots) (start-gap-of h) (sound .in-range .slots .0) (omega arith) (state-of h) ready plan rival (follows .lazy) k (subst⁻¹ (λ (n : ℕ). k < n) many below))

@@ -1,6 +1,7 @@
--- The three demands, and a held round as a packet. A reader has to believe Calls and the statements of One, Two, Three and Packets, with the definitions
--- that they cite.
+-- The three demands, and a held round as a packet. A reader has to believe Calls, Rivals and the statements of One, Two, Three and Packets, with the
+-- definitions that they cite.
 pub mod Calls
+pub mod Rivals
 pub mod One
 pub mod Two
 pub mod Three

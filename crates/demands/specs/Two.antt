@@ -41,8 +41,8 @@ pub record WritesSlots (p : Planner) (after : List ℕ) (r : Rounded) : Type 0 w
   pub n : r .n ≡ length packets
   pub ids : take (r .n) after ≡ map (λ (q : Packet). q .number) packets
 
--- 02 (i), a round where there is no stream: at L + G with no slots, nothing is written, and L alone moves; 17 where L + G is after 1,000,000,000.
--- The lazy rule and the slot rule come to this by themselves.
+-- 02 (i) and (v), a round where there is no stream: at L + 1 + G with no slots, nothing is written, and L alone moves; 17 where that is after
+-- 1,000,000,000. The lazy rule and the slot rule come to this by themselves.
 pub record RoundIsAtCap (p : Planner) (before after : List ℕ) (r : Rounded) : Type 0 where
   pub exactly : (r .answer ≡ 0) ↔ (cap-of (content p) ≤ 1_000_000_000)
   pub seventeen : (r .answer ≡ 17) ↔ (1_000_000_000 < cap-of (content p))

@@ -63,7 +63,7 @@ struct Script {
 }
 
 /// The kinds of stretches.
-const KINDS: [fn(&mut Script); 25] = [
+const KINDS: [fn(&mut Script); 26] = [
     uniform,
     uniform,
     demand_edge,
@@ -85,6 +85,7 @@ const KINDS: [fn(&mut Script); 25] = [
     no_stream,
     no_stream_at_end,
     no_stream_at_end,
+    near_cap,
     ties,
     ties,
     ties,
@@ -844,8 +845,9 @@ fn no_stream_at_end(script: &mut Script) {
     let slots = script.random.between(1, 3);
     let gap = script.gap();
     let rounds = script.random.between(0, 12);
-    let short = script.random.pick(&[0, 1, gap - 1]);
-    script.open(slots, superframe, gap, LAST_START - gap * rounds - short);
+    let short = script.random.pick(&[0, 1, gap]);
+    let time = LAST_START - (gap + 1) * rounds - short;
+    script.open(slots, superframe, gap, time);
     script.rounds(rounds + 1);
     for _ in 0..script.random.between(1, 3) {
         script.add_urgent();
@@ -853,6 +855,34 @@ fn no_stream_at_end(script: &mut Script) {
         none_left(script);
         script.rounds(2);
     }
+}
+
+/// Rounds near the cap: what is due next could wait until one before L + 1 + G,
+/// until that time, or one longer, so that one unit decides whether the gap
+/// forces the round.
+fn near_cap(script: &mut Script) {
+    let superframe = script.random.pick(&[60, 120, 240, 480, 720]);
+    let slots = script.random.pick(&[1, 1, 2, 3]);
+    let (gap, time) = (script.gap(), script.time());
+    script.open(slots, superframe, gap, time);
+    for _ in 0..script.random.between(8, 16) {
+        add_near_cap(script);
+        script.some_rounds(3);
+        if script.random.chance(60) {
+            script.remove_any();
+        }
+    }
+}
+
+/// Offers a stream due one unit after such a time.
+fn add_near_cap(script: &mut Script) {
+    let (id, period) = (script.free_id(), script.period(20, 240));
+    let ahead = script.planner().gap + script.random.between(0, 2);
+    let longest = ahead.min(period).max(1);
+    let shortest = ahead.saturating_sub(239).clamp(1, longest);
+    let deadline = script.random.between(shortest, longest);
+    let start = script.now() + ahead - deadline;
+    script.add(id, start, period, deadline);
 }
 
 /// Packets due together and released apart, and rounds with few slots, so

@@ -8,8 +8,8 @@ mod generate;
 mod packet;
 mod planner;
 mod program;
+mod rounds;
 mod selftest;
-mod ties;
 
 use std::io::{self, Read, Write};
 use std::process::ExitCode;
@@ -18,9 +18,9 @@ const USAGE: &str = "\
 oracle run                  answers the commands on standard input
 oracle generate SEED LINES  prints a random script of that many lines
 oracle count                counts the answers in an output on standard input
-oracle ties                 counts the rounds of a script on standard input that
+oracle rounds               counts the rounds of a script on standard input that
                             would list other ids, or the same in another order,
-                            by due time and then id alone
+                            by due time and then id alone, and those at the cap
 oracle pack START B [ID ..] writes the packet of a round, as bytes; if it is
                             refused, the answer to standard error alone
 oracle unpack               reads a packet on standard input and prints
@@ -40,7 +40,7 @@ fn main() -> ExitCode {
             let text = String::from_utf8_lossy(&output);
             print(count::Counts::of(&text).text().as_bytes())
         }
-        ["ties"] => print(ties::Ties::of(&input()).text().as_bytes()),
+        ["rounds"] => print(rounds::Rounds::of(&input()).text().as_bytes()),
         ["generate", seed, lines] => match (seed.parse(), lines.parse()) {
             (Ok(seed), Ok(lines)) => print(&generate::script(seed, lines)),
             _ => usage(),

@@ -287,12 +287,17 @@ impl Planner {
             .all(|t| self.future_demand(t) <= self.slots * (t - self.now()))
     }
 
-    /// "Lazy rule: the next start is the least of L + G and all
+    /// "The cap on the next start becomes L + 1 + G in place of L + G".
+    pub fn cap(&self) -> u64 {
+        self.last + 1 + self.gap
+    }
+
+    /// "Lazy rule: the next start is the least of" the cap "and all
     /// t - ceil(h(t) / B) with h(t) > 0." No due time is at now or before, so
     /// h(t) = 0 up to now. Nothing is raised to now: for a sound planner the
     /// least is never below it, and one that were would be a fault here.
     fn next_start(&self) -> u64 {
-        let mut least = self.last + self.gap;
+        let mut least = self.cap();
         for t in self.times() {
             let h = self.future_demand(t);
             if h > 0 {

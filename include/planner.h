@@ -18,6 +18,9 @@
  *   - a 64-bit x86 machine: the library is built for it, uses its SSE2 registers, and takes size_t to be 8 bytes;
  *   - the structs as they stand here, with the layout and alignment that C gives them; the examples check sizes and offsets. A planner kept
  *     by an earlier version, whose queue had no `releases`, has another layout (3,608 bytes, where it now has 3,864) and must be opened anew;
+ *   - the same version in every host on a bus. Earlier ones counted the gap from a round's start: a host with this version and one with an
+ *     earlier one part at the first round that only the gap forces, held here at last + 1 + gap, there at last + gap. Nothing in a planner
+ *     says which version kept it, and no call refuses it for that;
  *   - no pointer is null, buffers of length 0 included, and each is aligned for its type;
  *   - a planner's memory has been written before it is lent (to open too: zeros will do), so that every byte has a value;
  *   - buffer points to `length` ids that can be read and, for planner_round, written; length is at most the buffer's real one;
@@ -27,7 +30,7 @@
  * program without a C library has to have its own, as examples/c/freestanding.c has. No heap; no pointer is kept, and no call writes
  * anything but what it is lent and its stack. Every call returns, if these two do and the stack is large enough; nothing tests that it is.
  *
- * Stack, in bytes, return address and memcpy and memset of glibc included: open 1,112, add 20,712, remove 16,808, round 22,200, filled 24 (16
+ * Stack, in bytes, return address and memcpy and memset of glibc included: open 1,112, add 20,696, remove 16,792, round 22,184, filled 24 (16
  * of each are the measuring program's). Measured on a painted stack (`bash bench/stack`), the most over calls of every answer on a dozen
  * tables with up to 64 streams. That is this build, by the compiler that built it, and no promise: measure again what is linked, and leave
  * room above it.
@@ -86,7 +89,8 @@ struct planner_held {
     uint32_t n;
 };
 
-/* Opens the planner, whatever it held and sound or not: B = slots, F = frame, G = gap, L = last, and no stream.
+/* Opens the planner, whatever it held and sound or not: B = slots, F = frame, G = gap, L = last, and no stream. The gap runs from the end of
+ * a round, one after its start: each start is at most last + 1 + gap, the first as if a round had been held at the last passed here.
  * Refuses 1 unless slots is 1 to 64, 2 unless frame is 1 to 5,040, 3 unless gap is 1 to 255, 4 if last is above 1,000,000,000;
  * refused, it leaves the closed planner. */
 uint32_t planner_open(struct planner *p, uint32_t slots, uint32_t frame, uint32_t gap, uint32_t last);
@@ -103,7 +107,7 @@ uint32_t planner_remove(struct planner *p, uint32_t id);
  * may ride they are the first by due time, in that order; those due at the same time go by earlier release, then by smaller id. That start
  * and ids are those of the rules, that no packet is late and that no plan needs fewer rounds, is proved of every sound planner, with or
  * without a stream (docs/RULES.md, demands 2 and 3). With none, before the first is added or after the last is taken out, the round is
- * held at last + gap with n 0, the buffer is left as it was, and no plan that keeps the gap limit holds its k-th round later.
+ * held at last + 1 + gap with n 0, the buffer is left as it was, and no plan that keeps the gap limit holds its k-th round later.
  * Refuses 5 (the closed planner too); 16 if length is below slots, even where there is nothing to write; 17 if the start is after
  * 1,000,000,000. 15 is not given. */
 struct planner_held planner_round(struct planner *p, uint16_t *buffer, size_t length);

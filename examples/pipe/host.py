@@ -117,7 +117,7 @@ def stopped_and_going_on():
     second = ask(child, b"R\n")
     child.stdin.close()
     child.wait()
-    expect("a program that is stopped and goes on", (first, second), (b"O,0\n", b"R,0,6,0\n"))
+    expect("a program that is stopped and goes on", (first, second), (b"O,0\n", b"R,0,7,0\n"))
 
 
 def full_device():

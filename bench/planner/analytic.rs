@@ -59,7 +59,7 @@ impl Analytic {
 
 impl Host for Analytic {
     fn round(&mut self) -> u32 {
-        let mut start = self.last + self.gap;
+        let mut start = self.last + 1 + self.gap;
         for t in self.last + 2..=self.horizon() {
             let h = self.future_demand(t);
             if h > 0 {

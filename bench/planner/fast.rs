@@ -249,7 +249,7 @@ impl Host for Fast {
     fn round(&mut self) -> u32 {
         let mut buffer = [0u16; 64];
         self.least();
-        let start = self.last + (self.least_slack() as u32 / self.slots).min(self.gap);
+        let start = self.last + (self.least_slack() as u32 / self.slots).min(self.gap + 1);
         let (mut n, slots) = (0, self.slots as usize);
         let (mut key, mut bucket) = (self.low, self.bucket);
         let horizon = key + 239;

@@ -329,12 +329,12 @@ unsafe fn count_times(p: &[Stream; 64], times: &[i16; 64], count: usize, base: u
     }
 }
 
-// The lazy start less now, if the demand rule and the start rule hold.
+// The lazy start less now, if the demand rule and the start rule hold. The cap is G after now.
 #[inline(always)]
 fn lazy_start(streams: &[Stream; 64], count: usize, slots: u32, frame: u32, gap: u32, c: &Columns, first: usize) -> Option<u32> {
     let busy = unsafe { busy_length(count, slots, frame, c) }?;
     if count == 0 {
-        return Some(gap - 1);
+        return Some(gap);
     }
     let mut counts: Counts = [MaybeUninit::uninit(); 5120];
     unsafe { count_times(streams, &c.deadlines, count, 1, busy, &mut counts) };
@@ -348,7 +348,7 @@ fn lazy_start(streams: &[Stream; 64], count: usize, slots: u32, frame: u32, gap:
         }
     }
     unsafe { count_times(streams, &c.dues, count, first, busy, &mut counts) };
-    let (mut sum, mut room, mut needed, mut start) = (0, 0, 0, gap as i32 - 1);
+    let (mut sum, mut room, mut needed, mut start) = (0, 0, 0, gap as i32);
     for t in 0..busy {
         let n = u32::from(unsafe { *at.add(t) });
         if n > 0 {

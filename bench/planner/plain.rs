@@ -155,7 +155,7 @@ impl Plain {
     // Algorithm 1: the least slack of all due times up to the horizon.
     fn least_slack(&self) -> i32 {
         let mut q = self.queue.clone();
-        let horizon = self.last + self.gap + self.busy + 1;
+        let horizon = self.last + self.gap + self.busy + 2;
         let (mut demand, mut slack) = (0i32, i32::MAX);
         let mut x = q.least();
         let mut t = get(&q.keys, x);
@@ -230,7 +230,7 @@ impl Host for Plain {
     // Algorithms 1 and 2.
     fn round(&mut self) -> u32 {
         let mut buffer = [0u16; 64];
-        let start = self.last + (self.least_slack() as u32 / self.slots).min(self.gap);
+        let start = self.last + (self.least_slack() as u32 / self.slots).min(self.gap + 1);
         let mut n = 0;
         self.queue.least();
         let (mut key, mut head) = (self.queue.low, self.queue.head);

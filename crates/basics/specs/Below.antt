@@ -1,8 +1,16 @@
--- Deciding what holds of every number below a bound.
-use Prim.Native.Nat.{ℕ, zero, suc, _<_}
+-- What holds of every number below a bound, or between two, and deciding it.
+use Prim.Native.Nat.{ℕ, zero, suc, _≤_, _<_}
 use native.Mathlib.Numerals.{add-one}
 use native.Mathlib.Omega.{arith}
 use borrow.Author.Count.{below-none, below-more}
+
+-- P holds of every number below n.
+abbrev pub Below : ℕ → (ℕ → Type 0) → Type 0
+Below n P = (i : ℕ) → i < n → P i
+
+-- P holds of every number from one to before another.
+abbrev pub Between : ℕ → ℕ → (ℕ → Type 0) → Type 0
+Between from to P = (x : ℕ) → from ≤ x → x < to → P x
 
 -- what can be decided of every number can be decided of all numbers below n
 pub decide-below : (P : ℕ → Type 0) → ((t : ℕ) → Dec (P t)) → (n : ℕ) → Dec ((t : ℕ) → t < n → P t)

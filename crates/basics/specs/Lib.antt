@@ -1,9 +1,9 @@
--- Notions and facts that several crates share.
+-- Notions that several crates share, and in Facts what is proved of them.
 pub mod Decides
 pub mod Refusals
 pub mod Below
-pub mod Sorted
 pub mod Lexicographic
-pub mod Members
 pub mod Places
-pub mod PlaceFacts
+pub mod NewIds
+pub mod Limits
+pub mod Facts

@@ -1,10 +1,21 @@
 // Notions that several crates share: deciding, refusals in order, lists in order, an order by three numbers, a number's place among 64 that rise,
-// and a number in more bits.
+// an id that stands at no earlier place among 64, and a number in more bits.
 ghost use mathlib.Core.Path.{_≡_};
 ghost use Prim.Native.Nat.{_+_, _≤_, _<_};
 ghost use Rattle.basics.specs.Decides.{Decides};
 ghost use Rattle.basics.specs.Lexicographic.{Then};
+ghost use Rattle.basics.specs.NewIds.{at, New, IsSame};
 ghost use Rattle.basics.specs.Places.{Rises, IsPlaceAmong, IsUpper};
+
+// Limits that several crates share: no round starts later than the last start; a table and a queue have so many places; a round has at most so
+// many slots; no id is larger.
+pub const LAST_START: u32 = 1_000_000_000;
+
+pub const PLACES: usize = 64;
+
+pub const MOST_SLOTS: u32 = 64;
+
+pub const LARGEST_ID: u32 = 32_767;
 
 // A number of 16 bits in 32.
 pub fn wide(x: u16) -> u32
@@ -62,4 +73,33 @@ pub fn place_among_rising(values: &[u32; 64], x: u32) -> usize
         low = upper(low, step, values[low + (step - 1)], x);
     }
     low
+}
+
+// 1 for two ids that are the same.
+fn same_id(a: u16, b: u16) -> u16
+    ensures { λ r. ⌜ IsSame a b r ⌝ }
+{
+    if a == b {
+        return 1;
+    }
+    0
+}
+
+// Whether the id at place i, if there is one, stands at no earlier place. Every earlier place is looked at, also past one with the id: a loop
+// that cannot be left compares eight places at once.
+pub fn is_new_at(ids: &[u16; 64], i: usize) -> bool
+    requires { ⌜ i < 64 ⌝ }
+    ensures { λ r. ⌜ Decides r (New (at (now (ids .entry))) i) ⌝ }
+{
+    let id = ids[i];
+    if id < 1 {
+        return true;
+    }
+    let mut n: u16 = 0;
+    let mut j: usize = 0;
+    while j < i {
+        n += same_id(ids[j], id);
+        j += 1;
+    }
+    n == 0
 }

@@ -7,23 +7,30 @@ use native.Mathlib.Nat.{lt-irrefl}
 use native.Mathlib.Decide.{decLe}
 use native.Mathlib.Omega.{arith}
 use lib.ListN.{length}
-use Rattle.basics.specs.Refusals.{Refusal, answer-of, answer-first, answer-later, answer-zero}
-use Rattle.queue.specs.Order.{Entry, triple}
-use Rattle.queue.specs.Entries.{put, Filed, InBounds}
+use Rattle.basics.specs.Refusals.{Refusal, answer-of}
+use Rattle.basics.specs.Facts.Refusals.{answer-first, answer-later, answer-zero}
+use Rattle.places.specs.Order.{Entry, triple}
+use Rattle.places.specs.Entries.{put, Filed, InBounds}
+use Rattle.places.specs.Decide.{decide-filed, decide-in-bounds}
 use Rattle.queue.specs.Layout.{entries, Sound}
-use Rattle.queue.specs.Layout.Decide.{decide-sound, decide-filed, decide-in-bounds}
+use Rattle.queue.specs.Layout.Decide.{decide-sound}
 use Rattle.queue.specs.Calls.{unsound, bad-id, full, filed, out-of-bounds, not-filed, moved, insert-refusals, delete-refusals, move-refusals, HasEntries, IsChange}
-use Rattle.queue.specs.Inner.{CanInsert, CanDelete, CanMove}
+use Rattle.queue.specs.Linking.{CanInsert, CanDelete, CanMove}
 use Rattle.queue.specs.declared.Queue.{Queue}
 
 -- a refused change hands the queue back ..
-pub change-refused : (rs : List Refusal) (q : Queue) (es : List Entry) (a : ℕ) → a ≡ answer-of rs → (a ≡ 0 → ⊥) → IsChange rs q es (record { answer = a; queue = q })
-change-refused rs q es a is some =
+pub change-refused : {rs : List Refusal} {q : Queue} {es : List Entry} {a : ℕ} → a ≡ answer-of rs → (a ≡ 0 → ⊥) → IsChange rs q es (record { answer = a; queue = q })
+change-refused is some =
     record { answer = is; refused = λ _. refl; sound = λ zero. absurd (some (is ∙ zero)); content = λ zero. absurd (some (is ∙ zero)) }
 
 -- .. and one that is not refused has the entries
-pub change-done : (rs : List Refusal) (q r : Queue) (es : List Entry) (a : ℕ) → a ≡ answer-of rs → a ≡ 0 → HasEntries r es → IsChange rs q es (record { answer = 0; queue = r })
-change-done rs q r es a is zero has =
+pub change-done :
+    {rs : List Refusal} {q r : Queue} {es : List Entry} {a : ℕ}
+    → a ≡ answer-of rs
+    → a ≡ 0
+    → HasEntries r es
+    → IsChange rs q es (record { answer = 0; queue = r })
+change-done is zero has =
     record { answer = sym zero ∙ is; refused = λ some. absurd (some (sym is ∙ zero)); sound = λ _. has .sound; content = λ _. has .content }
 
 not-zero : (n : ℕ) → 1 ≤ n → n ≡ 0 → ⊥

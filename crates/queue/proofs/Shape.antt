@@ -5,7 +5,7 @@ use lib.ListN.{length-map}
 use mir.Val.{Val}
 use denote.Laws.{Is}
 use denote.Struct.Declared.{row}
-use Rattle.queue.specs.Inner.{HasShape}
+use Rattle.queue.specs.Linking.{HasShape}
 use Rattle.queue.specs.declared.Queue.{Queue}
 use Rattle.queue.proofs.Queue.{the-type}
 

@@ -5,11 +5,13 @@ use mathlib.Core.List.{List, [], _∷_}
 use Prim.Native.Nat.{ℕ, _≤_}
 use native.Mathlib.Decide.{decLe}
 use lib.ListN.{length}
+use Rattle.basics.specs.Limits.{places, largest-id}
 use Rattle.basics.specs.Refusals.{Refusal, answer-of}
-use Rattle.queue.specs.Order.{Entry, triple}
-use Rattle.queue.specs.Entries.{put, without, after, filed-as, moved-on, Filed, InBounds}
+use Rattle.places.specs.Order.{Entry, triple}
+use Rattle.places.specs.Entries.{put, without, after, filed-as, moved-on, Filed, InBounds}
+use Rattle.places.specs.Decide.{decide-filed, decide-in-bounds}
 use Rattle.queue.specs.Layout.{entries, Sound}
-use Rattle.queue.specs.Layout.Decide.{decide-sound, decide-filed, decide-in-bounds}
+use Rattle.queue.specs.Layout.Decide.{decide-sound}
 use Rattle.queue.specs.declared.Queue.{Queue}
 use Rattle.queue.specs.declared.Changed.{Changed}
 use Rattle.queue.specs.declared.Found.{Found}
@@ -20,11 +22,11 @@ unsound q = record { number = 5; Applies = Sound q → ⊥; decided = Dec·not (
 
 -- 01: "6" for a bad id.
 abbrev pub bad-id : ℕ → Refusal
-bad-id id = record { number = 6; Applies = ((1 ≤ id) × (id ≤ 32767)) → ⊥; decided = Dec·not (Dec·and (decLe 1 id) (decLe id 32767)) }
+bad-id id = record { number = 6; Applies = ((1 ≤ id) × (id ≤ largest-id)) → ⊥; decided = Dec·not (Dec·and (decLe 1 id) (decLe id largest-id)) }
 
 -- 01: "21 with 64 filed".
 abbrev pub full : List Entry → Refusal
-full es = record { number = 21; Applies = 64 ≤ length es; decided = decLe 64 (length es) }
+full es = record { number = 21; Applies = places ≤ length es; decided = decLe places (length es) }
 
 -- 01: "22 for an id filed".
 abbrev pub filed : ℕ → List Entry → Refusal
@@ -45,7 +47,8 @@ moved id amount es = put (moved-on amount (filed-as id es)) (without id es)
 
 -- 01: "Insert refuses 5 .., 6, 21 .., 22 .., 23".
 abbrev pub insert-refusals : Queue → ℕ → ℕ → ℕ → List Refusal
-insert-refusals q id key release = unsound q ∷ bad-id id ∷ full (entries q) ∷ filed id (entries q) ∷ out-of-bounds (put (triple key release id) (entries q)) ∷ []
+insert-refusals q id key release =
+    unsound q ∷ bad-id id ∷ full (entries q) ∷ filed id (entries q) ∷ out-of-bounds (put (triple key release id) (entries q)) ∷ []
 
 -- 01: "Delete refuses 5, 24".
 abbrev pub delete-refusals : Queue → ℕ → List Refusal

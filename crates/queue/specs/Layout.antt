@@ -3,30 +3,30 @@
 pub mod Ranks
 pub mod LinkFacts
 pub mod LinkChange
-pub mod Collected
 pub mod Decide
 pub mod SoundFacts
 pub mod SoundnessFacts
-pub mod NewIds
+pub mod Soundness
 pub mod Walk
 pub mod Change
 pub mod Buckets
 pub mod Answers
 pub mod First
 pub mod Heads
-pub mod Filing
 pub mod FilingSound
 pub mod Following
 pub mod InOrder
+pub mod Moves
 pub mod Laws
 use mathlib.Core.Path.{_≡_}
 use mathlib.Core.Logic.{_⊎_, ite}
 use mathlib.Core.List.{List, [], _∷_, _++_}
 use Prim.Native.Nat.{ℕ, zero, suc, _+_, _-_, _%_, _≤_, _<_}
-use native.Mathlib.Decide.{decLe, decLt}
+use native.Mathlib.Decide.{decLt}
 use lib.ListN.{getD, replicate}
-use Rattle.queue.specs.Order.{Entry, Before}
-use Rattle.queue.specs.Entries.{put}
+use Rattle.basics.specs.Limits.{places, largest-id}
+use Rattle.places.specs.Order.{Entry, Before}
+use Rattle.places.specs.Collected.{collected}
 use Rattle.queue.specs.declared.Queue.{Queue}
 
 -- A queue of these ids, keys, releases and links.
@@ -69,11 +69,6 @@ entry-at q i = record { key = key-at q i; release = release-at q i; id = id-at q
 abbrev pub Holds : Queue → ℕ → Type 0
 Holds q i = (i < 64) × (1 ≤ id-at q i)
 
--- The entries in the first n places, in order. A place with id 0 is free.
-pub collected : (at : ℕ → Entry) → ℕ → List Entry
-collected at zero = []
-collected at (suc i) = ite (decLe 1 (at i .id)) (put (at i) (collected at i)) (collected at i)
-
 -- A queue's entries, sorted by key, then release, then id.
 pub entries : Queue → List Entry
 entries q = collected (entry-at q) 64
@@ -111,9 +106,14 @@ AllLinked places next prev = (x : ℕ) → IsNode (λ i. places i .id) x → Lin
 -- its return link, and no key or span is beyond the bounds of 23", which 02 (ii) extends to releases. There are 64 places, so no more than 64
 -- ids can be filed.
 pub record Sound (q : Queue) : Type 0 where
-  ids-in-range : (i : ℕ) → Holds q i → id-at q i ≤ 32767
+  ids-in-range : (i : ℕ) → Holds q i → id-at q i ≤ largest-id
   once : (i j : ℕ) → Holds q i → Holds q j → id-at q i ≡ id-at q j → i ≡ j
   keys-in-range : (i : ℕ) → Holds q i → key-at q i ≤ 2_000_000_000
   released : (i : ℕ) → Holds q i → release-at q i ≤ key-at q i
   span : (i j : ℕ) → Holds q i → Holds q j → key-at q i ≤ key-at q j + 479
   links : AllLinked (entry-at q) (next-at q) (prev-at q)
+
+-- An id is filed at this place.
+pub record IsPlacedAt (q : Queue) (id place : ℕ) : Type 0 where
+  holds : Holds q place
+  has-id : id-at q place ≡ id

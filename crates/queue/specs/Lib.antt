@@ -1,8 +1,7 @@
--- The queue's definitions, and the laws about them. A layer above uses Order, Entries, Calls and Layout.Laws.
-pub mod Order
-pub mod Entries
-pub mod EntryFacts
-pub mod Marks
+-- The queue. The layer above cites the page Interface and its laws, InterfaceLaws, alone. A reader has to believe Layout and Calls; Linking is what
+-- inner functions promise one another. Layout keeps its facts in a folder of its own, since only modules below it can open what it closes.
+pub mod Interface
+pub mod InterfaceLaws
 pub mod Layout
 pub mod Calls
-pub mod Inner
+pub mod Linking

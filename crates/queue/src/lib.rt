@@ -3,28 +3,31 @@
 // Every call here tests the queue it is handed. A layer that knows its queue to be sound calls the forms whose names end in _sound.
 ghost use mathlib.Core.Path.{_≡_};
 ghost use Rattle.basics.specs.Refusals.{answer-of};
-ghost use Rattle.queue.specs.Order.{triple};
-ghost use Rattle.queue.specs.Entries.{put, without};
+ghost use Rattle.places.specs.Order.{triple};
+ghost use Rattle.places.specs.Entries.{put, without};
 ghost use Rattle.queue.specs.Layout.{entries, empty-queue};
 ghost use Rattle.queue.specs.Calls.{insert-refusals, delete-refusals, move-refusals, moved, IsChange, least-of, next-of};
+use basics::LARGEST_ID;
+use basics::PLACES;
+pub use changes::delete_sound;
+pub use changes::insert_sound;
+pub use changes::move_sound;
 pub use filing::is_sound_filing_in_range;
-use links::place_of;
-pub use order::places_in_order_sound;
+pub use moves::move_all_sound;
+pub use order::in_order_sound;
+use places::key_fits;
+use places::place_of;
+use places::sum;
 pub use search::least_sound;
 pub use search::next_sound;
-pub use sound::delete_sound;
-pub use sound::insert_sound;
-use sound::key_fits;
-pub use sound::move_at_sound;
-pub use sound::move_sound;
-use sound::sum;
 pub use soundness::is_sound;
 
+mod changes;
 mod filing;
 mod links;
+mod moves;
 mod order;
 mod search;
-mod sound;
 mod soundness;
 
 // Places 0 to 63 hold entries, id 0 where a place is free; node 64 + b is the head of bucket b. `next` and `prev` link the nodes.
@@ -49,6 +52,12 @@ pub struct Found {
     pub key: u32,
     pub release: u32,
     pub id: u32,
+}
+
+// Entries of a queue, by their ids, and beside each the place at which the queue has it. What a place is stays inside the queue.
+pub struct Placed {
+    pub ids: [u16; 64],
+    pub places: [usize; 64],
 }
 
 // The queue with nothing filed: zeros at every place, and every bucket's head its own neighbour.
@@ -79,19 +88,19 @@ fn insert_refusal(q: Queue, id: u32, key: u32, release: u32) -> u32
     if id < 1 {
         return 6;
     }
-    if 32767 < id {
+    if LARGEST_ID < id {
         return 6;
     }
-    if place_of(&q.ids, 0) == 64 {
+    if place_of(&q.ids, 0) == PLACES {
         return 21;
     }
-    if place_of(&q.ids, id) != 64 {
+    if place_of(&q.ids, id) != PLACES {
         return 22;
     }
     if key < release {
         return 23;
     }
-    if !key_fits(&q.ids, &q.keys, 64, key as u64) {
+    if !key_fits(&q.ids, &q.keys, PLACES, key as u64) {
         return 23;
     }
     0
@@ -119,7 +128,7 @@ fn delete_refusal(q: Queue, id: u32) -> u32
     if id < 1 {
         return 24;
     }
-    if place_of(&q.ids, id) == 64 {
+    if place_of(&q.ids, id) == PLACES {
         return 24;
     }
     0
@@ -148,7 +157,7 @@ fn move_refusal(q: Queue, id: u32, amount: u32) -> u32
         return 24;
     }
     let x = place_of(&q.ids, id);
-    if x == 64 {
+    if x == PLACES {
         return 24;
     }
     let key = q.keys[x];

@@ -1,26 +1,11 @@
-// Places and links: finding a place, and putting an entry between two nodes or taking it out.
+// Places and links: putting an entry between two nodes or taking it out, and finding where it goes.
 ghost use mathlib.Core.Path.{_≡_};
 ghost use Prim.Native.Nat.{_+_, _<_};
 ghost use lib.ListN.{getD, set};
-ghost use Rattle.queue.specs.Order.{triple};
+ghost use Rattle.places.specs.Order.{triple};
 ghost use Rattle.queue.specs.Layout.{queue-of, bucket-of-key, Sound};
 ghost use Rattle.queue.specs.Layout.Ranks.{rank};
-ghost use Rattle.queue.specs.Inner.{IsPlaceOf, CanLink, linked-next, linked-prev, CanUnlink, unlinked-next, unlinked-prev, CanPut, put-before, CanTake, taken-out, IsPosition, IsNewRank};
-use basics::wide;
-
-// The place of an id, or 64 where no place has it; of id 0, the first free place.
-pub fn place_of(ids: &[u16; 64], id: u32) -> usize
-    ensures { λ r. ⌜ IsPlaceOf (now (ids .entry)) id r ⌝ }
-{
-    let mut i = 0;
-    while i < 64 {
-        if wide(ids[i]) == id {
-            return i;
-        }
-        i += 1;
-    }
-    64
-}
+ghost use Rattle.queue.specs.Linking.{CanLink, linked-next, linked-prev, CanUnlink, unlinked-next, unlinked-prev, CanPut, put-before, CanTake, taken-out, IsPosition, IsNewRank};
 
 // The bucket of a key.
 pub fn bucket_of_key(key: u32) -> usize

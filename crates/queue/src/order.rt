@@ -2,13 +2,14 @@
 ghost use Prim.Native.Nat.{_≤_, _<_};
 ghost use lib.ListN.{length};
 ghost use Rattle.queue.specs.Layout.{entries, Sound};
-ghost use Rattle.queue.specs.Inner.{IsFollowing, IsInOrder};
+ghost use Rattle.queue.specs.Linking.{IsFollowing, IsInOrder};
+use super::Placed;
 use super::Queue;
 use super::links::bucket_of_key;
 use super::links::head_of;
 use super::links::node_at;
 use super::search::bucket_after;
-use super::soundness::least_key;
+use places::least_key;
 
 // The place of the entry that follows a node in the bucket of a key, along its list or in a later bucket; 64 if none follows.
 fn following_in_range<'a>(keys: &'a [u32; 64], next: &'a [u16; 544], key: u32, n: usize) -> usize
@@ -35,20 +36,22 @@ fn following_in_range<'a>(keys: &'a [u32; 64], next: &'a [u16; 544], key: u32, n
     64
 }
 
-// The places of the first `count` entries, in order. The walk begins at the head of the least key's bucket.
-pub fn places_in_order_sound(q: Queue, count: usize) -> [usize; 64]
+// The first `count` entries, in order. The walk begins at the head of the least key's bucket.
+pub fn in_order_sound(q: Queue, count: usize) -> Placed
     requires { ⌜ Sound q × (count ≤ length (entries q)) ⌝ }
     ensures { λ r. ⌜ IsInOrder q count r ⌝ }
 {
+    let mut ids = [0u16; 64];
     let mut places = [0usize; 64];
     let mut key = least_key(&q.ids, &q.keys);
     let mut n = head_of(key);
     let mut k: usize = 0;
     while k < count {
         n = following_in_range(&q.keys, &q.next, key, n);
+        ids[k] = q.ids[n];
         places[k] = n;
         key = q.keys[n];
         k += 1;
     }
-    places
+    Placed { ids, places }
 }

@@ -1,17 +1,17 @@
 // The search for the first entry after a point in the order: a key, a release and an id, filed or not.
 ghost use mathlib.Core.Path.{_≡_};
 ghost use Prim.Native.Nat.{_<_};
-ghost use Rattle.queue.specs.Order.{triple};
+ghost use Rattle.places.specs.Order.{triple};
 ghost use Rattle.queue.specs.Layout.{bucket-after, Sound};
 ghost use Rattle.queue.specs.Calls.{least-of, next-of};
-ghost use Rattle.queue.specs.Inner.{SearchFrom, IsFirstAfter};
+ghost use Rattle.queue.specs.Linking.{SearchFrom, IsFirstAfter};
 use super::Found;
 use super::Queue;
 use super::links::bucket_of_key;
 use super::links::node_at;
-use super::soundness::least_key;
 use basics::is_after;
 use basics::wide;
+use places::least_key;
 
 // The bucket after a bucket, round the circle.
 pub fn bucket_after(bucket: usize) -> usize

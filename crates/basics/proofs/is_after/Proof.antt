@@ -3,8 +3,9 @@ use mathlib.Core.Logic.{inl, inr, ⊎-elim}
 use Prim.Native.Nat.{ℕ, _<_}
 use native.Mathlib.Nat.{le-antisymm}
 use native.Mathlib.Omega.{arith}
-use Rattle.basics.specs.Decides.{decides-yes, decides-no, same-as, less-than}
-use Rattle.basics.specs.Lexicographic.{Then, then-rest}
+use Rattle.basics.specs.Facts.Decides.{decides-yes, decides-no, same-as, less-than}
+use Rattle.basics.specs.Lexicographic.{Then}
+use Rattle.basics.specs.Facts.Lexicographic.{then-rest}
 use Rattle.basics.proofs.is_after.Statement.{statement}
 use Rattle.basics.proofs.is_after.Tie as tie
 

@@ -1,7 +1,7 @@
 -- `basics::place_among_rising` meets its contract: the place is one of `step` from `low` on, and a step of one leaves it alone.
 use native.Mathlib.Omega.{arith}
 use borrow.Author.Needs.{needs}
-use Rattle.basics.specs.PlaceFacts.{IsAmong, among-all, among-half, among-one}
+use Rattle.basics.specs.Facts.Places.{IsAmong, among-all, among-half, among-one}
 use Rattle.basics.proofs.place_among_rising.Statement.{statement}
 use Rattle.basics.proofs.place_among_rising.Tie as tie
 
@@ -33,7 +33,10 @@ loop-less : tie.Need-loop-less Inv-loop μ-loop
 loop-less c = omega arith
 
 loop-again : tie.Need-loop-again Inv-loop μ-loop
-loop-again c = among-half (c .before .before .before .before .pre) (c .before .before .loop-test .taken) (c .before .before .before .loop .inv) (c .upper .ensures)
+loop-again c =
+    let rising = c .before .before .before .before .pre in
+    let so-far = c .before .before .before .loop .inv in
+    among-half rising (c .before .before .loop-test .taken) so-far (c .upper .ensures)
 
 returns : tie.Need-returns Inv-loop μ-loop
 returns c = among-one (c .before .loop .inv) (c .loop-test .left)

@@ -15,7 +15,14 @@ abbrev μ-loop : tie.MeasureT-loop
 μ-loop links₀ x₀ links x = 544 - x
 
 loop-holds : tie.Need-loop-holds Inv-loop μ-loop
-loop-holds c = record { from = omega arith; within = omega arith; size = refl; free = λ i below. getD-replicate 544 i 0 0 (omega arith); alone = λ j low high. absurd (lt-irrefl 64 (omega (arith, low, high))) }
+loop-holds c =
+    record {
+      from = omega arith;
+      within = omega arith;
+      size = refl;
+      free = λ i below. getD-replicate 544 i 0 0 (omega arith);
+      alone = λ j low high. absurd (lt-irrefl 64 (omega (arith, low, high)));
+    }
 
 cast-links : tie.Need-cast-links Inv-loop μ-loop
 cast-links c = omega (arith, c .before .loop .inv .within, c .before .loop .inv .from)

@@ -1,7 +1,14 @@
 -- `queue::insert_refusal` meets its contract: the tests are the refusals of insert, in their order.
+use mathlib.Core.Path.{_≡_}
+use Prim.Native.Nat.{_≤_, _<_}
 use native.Mathlib.Nat.{lt-irrefl, lt-of-lt-of-le}
-use Rattle.basics.specs.Decides.{failed, passed}
-use Rattle.queue.specs.Order.{triple}
+use lib.ListN.{length}
+use Rattle.basics.specs.Facts.Decides.{failed, passed}
+use Rattle.basics.specs.Refusals.{answer-of}
+use Rattle.places.specs.Order.{triple}
+use Rattle.places.specs.Entries.{put, InBounds}
+use Rattle.queue.specs.Layout.{entries, Sound}
+use Rattle.queue.specs.Calls.{insert-refusals}
 use Rattle.queue.specs.Layout.Answers.{full-if, room-if, filed-if, not-filed-if, insert-bounds, insert-fits, insert-released}
 use Rattle.queue.proofs.Refused.{refuses-5, insert-answers-6, insert-answers-21, insert-answers-22, insert-answers-23, insert-answers-0}
 use borrow.Author.Needs.{needs}
@@ -14,41 +21,92 @@ is-sound-requires c κs = search needs
 returns : tie.Need-returns
 returns c = refuses-5 (c .before .before .args .t1) _ (failed (c .before .is-sound .ensures) (c .if1 .taken))
 
+-- what each test shows of the call once it is passed
+sound : (c : tie.Else1) → Sound (c .before .before .args .t1)
+sound c = passed (c .before .is-sound .ensures) (c .if1 .left)
+
 returns-2 : tie.Need-returns-2
-returns-2 c = insert-answers-6 (c .before .before .before .args .t1) (c .before .before .before .args .id) (c .before .before .before .args .key) (c .before .before .before .args .release) (passed (c .before .before .is-sound .ensures) (c .before .if1 .left)) (λ range. lt-irrefl _ (lt-of-lt-of-le (c .if2 .taken) (range .0)))
+returns-2 c =
+    let a = c .before .before .before .args in
+    insert-answers-6 (a .t1) (a .id) (a .key) (a .release) (sound (c .before)) (λ range. lt-irrefl _ (lt-of-lt-of-le (c .if2 .taken) (range .0)))
 
 returns-3 : tie.Need-returns-3
-returns-3 c = insert-answers-6 (c .before .before .before .before .args .t1) (c .before .before .before .before .args .id) (c .before .before .before .before .args .key) (c .before .before .before .before .args .release) (passed (c .before .before .before .is-sound .ensures) (c .before .before .if1 .left)) (λ range. lt-irrefl _ (lt-of-lt-of-le (c .if3 .taken) (range .1)))
+returns-3 c =
+    let a = c .before .before .before .before .args in
+    insert-answers-6 (a .t1) (a .id) (a .key) (a .release) (sound (c .before .before)) (λ range. lt-irrefl _ (lt-of-lt-of-le (c .if3 .taken) (range .1)))
+
+range : (c : tie.Else3) → let a = c .before .before .before .before .args in (1 ≤ a .id) × (a .id ≤ 32767)
+range c = (c .before .if2 .left, c .if3 .left)
 
 place-of-requires : tie.Need-place-of-requires
 place-of-requires c κs = search needs
 
 returns-4 : tie.Need-returns-4
-returns-4 c = insert-answers-21 (c .before .before .before .before .before .before .before .before .args .t1) (c .before .before .before .before .before .before .before .before .args .id) (c .before .before .before .before .before .before .before .before .args .key) (c .before .before .before .before .before .before .before .before .args .release) (passed (c .before .before .before .before .before .before .before .is-sound .ensures) (c .before .before .before .before .before .before .if1 .left)) (c .before .before .before .before .before .if2 .left, c .before .before .before .before .if3 .left) (full-if (c .before .before .before .before .before .before .before .before .args .t1) (c .before .place-of .result) (c .before .place-of .ensures) (c .if4 .taken))
+returns-4 c =
+    let numbered = c .before .before .before .before in
+    let a = numbered .before .before .before .before .args in
+    insert-answers-21 (a .t1) (a .id) (a .key) (a .release) (sound (numbered .before .before)) (range numbered)
+    (full-if (a .t1) (c .before .place-of .result) (c .before .place-of .ensures) (c .if4 .taken))
+
+room : (c : tie.Else4) → length (entries (c .before .before .before .before .before .before .before .before .args .t1)) < 64
+room c =
+    let q = c .before .before .before .before .before .before .before .before .args .t1 in
+    room-if q (c .before .place-of .result) (c .before .place-of .ensures) (c .if4 .left)
 
 place-of-requires-2 : tie.Need-place-of-requires-2
 place-of-requires-2 c κs = search needs
 
 returns-5 : tie.Need-returns-5
-returns-5 c = insert-answers-22 (c .before .before .before .before .before .before .before .before .before .before .before .before .args .t1) (c .before .before .before .before .before .before .before .before .before .before .before .before .args .id) (c .before .before .before .before .before .before .before .before .before .before .before .before .args .key) (c .before .before .before .before .before .before .before .before .before .before .before .before .args .release) (passed (c .before .before .before .before .before .before .before .before .before .before .before .is-sound .ensures) (c .before .before .before .before .before .before .before .before .before .before .if1 .left)) (c .before .before .before .before .before .before .before .before .before .if2 .left, c .before .before .before .before .before .before .before .before .if3 .left) (room-if (c .before .before .before .before .before .before .before .before .before .before .before .before .args .t1) (c .before .before .before .before .before .place-of .result) (c .before .before .before .before .before .place-of .ensures) (c .before .before .before .before .if4 .left)) (filed-if (c .before .before .before .before .before .before .before .before .before .before .before .before .args .t1) (c .before .before .before .before .before .before .before .before .before .before .before .before .args .id) (c .before .place-of2 .result) (c .before .before .before .before .before .before .before .before .before .if2 .left) (c .before .place-of2 .ensures) (c .if5 .taken))
+returns-5 c =
+    let roomy = c .before .before .before .before in
+    let numbered = roomy .before .before .before .before in
+    let a = numbered .before .before .before .before .args in
+    insert-answers-22 (a .t1) (a .id) (a .key) (a .release) (sound (numbered .before .before)) (range numbered) (room roomy)
+    (filed-if (a .t1) (a .id) (c .before .place-of2 .result) (range numbered .0) (c .before .place-of2 .ensures) (c .if5 .taken))
+
+-- past the tests of 5, 6, 21 and 22 the bounds alone decide
+bounds-decide :
+    (c : tie.Else5)
+    → let a = c .before .before .before .before .before .before .before .before .before .before .before .before .args in
+    let within = InBounds (put (triple (a .key) (a .release) (a .id)) (entries (a .t1))) in
+    let answer = answer-of (insert-refusals (a .t1) (a .id) (a .key) (a .release)) in
+    ((within → ⊥) → 23 ≡ answer) × (within → 0 ≡ answer)
+bounds-decide c =
+    let roomy = c .before .before .before .before in
+    let numbered = roomy .before .before .before .before in
+    let tested = numbered .before .before in
+    let a = tested .before .before .args in
+    let new = not-filed-if (a .t1) (a .id) (c .before .place-of2 .result) (c .before .place-of2 .ensures) (c .if5 .left) in (
+      insert-answers-23 (a .t1) (a .id) (a .key) (a .release) (sound tested) (range numbered) (room roomy) new,
+      insert-answers-0 (a .t1) (a .id) (a .key) (a .release) (sound tested) (range numbered) (room roomy) new,
+    )
 
 returns-6 : tie.Need-returns-6
 returns-6 c =
-    insert-answers-23 (c .before .before .before .before .before .before .before .before .before .before .before .before .before .args .t1) (c .before .before .before .before .before .before .before .before .before .before .before .before .before .args .id) (c .before .before .before .before .before .before .before .before .before .before .before .before .before .args .key) (c .before .before .before .before .before .before .before .before .before .before .before .before .before .args .release) (passed (c .before .before .before .before .before .before .before .before .before .before .before .before .is-sound .ensures) (c .before .before .before .before .before .before .before .before .before .before .before .if1 .left)) (c .before .before .before .before .before .before .before .before .before .before .if2 .left, c .before .before .before .before .before .before .before .before .before .if3 .left) (room-if (c .before .before .before .before .before .before .before .before .before .before .before .before .before .args .t1) (c .before .before .before .before .before .before .place-of .result) (c .before .before .before .before .before .before .place-of .ensures) (c .before .before .before .before .before .if4 .left)) (not-filed-if (c .before .before .before .before .before .before .before .before .before .before .before .before .before .args .t1) (c .before .before .before .before .before .before .before .before .before .before .before .before .before .args .id) (c .before .before .place-of2 .result) (c .before .before .place-of2 .ensures) (c .before .if5 .left))
-    (λ within. lt-irrefl _ (lt-of-lt-of-le (c .if6 .taken) (insert-released (c .before .before .before .before .before .before .before .before .before .before .before .before .before .args .t1) (passed (c .before .before .before .before .before .before .before .before .before .before .before .before .is-sound .ensures) (c .before .before .before .before .before .before .before .before .before .before .before .if1 .left)) (triple (c .before .before .before .before .before .before .before .before .before .before .before .before .before .args .key) (c .before .before .before .before .before .before .before .before .before .before .before .before .before .args .release) (c .before .before .before .before .before .before .before .before .before .before .before .before .before .args .id)) within)))
+    let tested = c .before .before .before .before .before .before .before .before .before .before .before in
+    let a = tested .before .before .args in
+    let released = insert-released (a .t1) (sound tested) (triple (a .key) (a .release) (a .id)) in
+    bounds-decide (c .before) .0 (λ within. lt-irrefl _ (lt-of-lt-of-le (c .if6 .taken) (released within)))
 
 key-fits-requires : tie.Need-key-fits-requires
 key-fits-requires c κs = search needs
 
 returns-7 : tie.Need-returns-7
 returns-7 c =
-    insert-answers-23 (c .before .before .before .before .before .before .before .before .before .before .before .before .before .before .before .before .before .before .args .t1) (c .before .before .before .before .before .before .before .before .before .before .before .before .before .before .before .before .before .before .args .id) (c .before .before .before .before .before .before .before .before .before .before .before .before .before .before .before .before .before .before .args .key) (c .before .before .before .before .before .before .before .before .before .before .before .before .before .before .before .before .before .before .args .release) (passed (c .before .before .before .before .before .before .before .before .before .before .before .before .before .before .before .before .before .is-sound .ensures) (c .before .before .before .before .before .before .before .before .before .before .before .before .before .before .before .before .if1 .left)) (c .before .before .before .before .before .before .before .before .before .before .before .before .before .before .before .if2 .left, c .before .before .before .before .before .before .before .before .before .before .before .before .before .before .if3 .left) (room-if (c .before .before .before .before .before .before .before .before .before .before .before .before .before .before .before .before .before .before .args .t1) (c .before .before .before .before .before .before .before .before .before .before .before .place-of .result) (c .before .before .before .before .before .before .before .before .before .before .before .place-of .ensures) (c .before .before .before .before .before .before .before .before .before .before .if4 .left)) (not-filed-if (c .before .before .before .before .before .before .before .before .before .before .before .before .before .before .before .before .before .before .args .t1) (c .before .before .before .before .before .before .before .before .before .before .before .before .before .before .before .before .before .before .args .id) (c .before .before .before .before .before .before .before .place-of2 .result) (c .before .before .before .before .before .before .before .place-of2 .ensures) (c .before .before .before .before .before .before .if5 .left))
-    (λ within. failed (c .before .key-fits .ensures) (c .if7 .taken) (insert-fits (c .before .before .before .before .before .before .before .before .before .before .before .before .before .before .before .before .before .before .args .t1) (passed (c .before .before .before .before .before .before .before .before .before .before .before .before .before .before .before .before .before .is-sound .ensures) (c .before .before .before .before .before .before .before .before .before .before .before .before .before .before .before .before .if1 .left)) (triple (c .before .before .before .before .before .before .before .before .before .before .before .before .before .before .before .before .before .before .args .key) (c .before .before .before .before .before .before .before .before .before .before .before .before .before .before .before .before .before .before .args .release) (c .before .before .before .before .before .before .before .before .before .before .before .before .before .before .before .before .before .before .args .id)) within))
+    let new = c .before .before .before .before .before .before in
+    let tested = new .before .before .before .before .before .before .before .before .before .before in
+    let a = tested .before .before .args in
+    let fits = insert-fits (a .t1) (sound tested) (triple (a .key) (a .release) (a .id)) in
+    bounds-decide new .0 (λ within. failed (c .before .key-fits .ensures) (c .if7 .taken) (fits within))
 
 returns-8 : tie.Need-returns-8
 returns-8 c =
-    insert-answers-0 (c .before .before .before .before .before .before .before .before .before .before .before .before .before .before .before .before .before .before .args .t1) (c .before .before .before .before .before .before .before .before .before .before .before .before .before .before .before .before .before .before .args .id) (c .before .before .before .before .before .before .before .before .before .before .before .before .before .before .before .before .before .before .args .key) (c .before .before .before .before .before .before .before .before .before .before .before .before .before .before .before .before .before .before .args .release) (passed (c .before .before .before .before .before .before .before .before .before .before .before .before .before .before .before .before .before .is-sound .ensures) (c .before .before .before .before .before .before .before .before .before .before .before .before .before .before .before .before .if1 .left)) (c .before .before .before .before .before .before .before .before .before .before .before .before .before .before .before .if2 .left, c .before .before .before .before .before .before .before .before .before .before .before .before .before .before .if3 .left) (room-if (c .before .before .before .before .before .before .before .before .before .before .before .before .before .before .before .before .before .before .args .t1) (c .before .before .before .before .before .before .before .before .before .before .before .place-of .result) (c .before .before .before .before .before .before .before .before .before .before .before .place-of .ensures) (c .before .before .before .before .before .before .before .before .before .before .if4 .left)) (not-filed-if (c .before .before .before .before .before .before .before .before .before .before .before .before .before .before .before .before .before .before .args .t1) (c .before .before .before .before .before .before .before .before .before .before .before .before .before .before .before .before .before .before .args .id) (c .before .before .before .before .before .before .before .place-of2 .result) (c .before .before .before .before .before .before .before .place-of2 .ensures) (c .before .before .before .before .before .before .if5 .left))
-    (insert-bounds (c .before .before .before .before .before .before .before .before .before .before .before .before .before .before .before .before .before .before .args .t1) (passed (c .before .before .before .before .before .before .before .before .before .before .before .before .before .before .before .before .before .is-sound .ensures) (c .before .before .before .before .before .before .before .before .before .before .before .before .before .before .before .before .if1 .left)) (triple (c .before .before .before .before .before .before .before .before .before .before .before .before .before .before .before .before .before .before .args .key) (c .before .before .before .before .before .before .before .before .before .before .before .before .before .before .before .before .before .before .args .release) (c .before .before .before .before .before .before .before .before .before .before .before .before .before .before .before .before .before .before .args .id)) (c .before .before .before .before .before .if6 .left) (passed (c .before .key-fits .ensures) (c .if7 .left)))
+    let released = c .before .before .before .before .before in
+    let new = released .before in
+    let tested = new .before .before .before .before .before .before .before .before .before .before in
+    let a = tested .before .before .args in
+    let bounds = insert-bounds (a .t1) (sound tested) (triple (a .key) (a .release) (a .id)) in
+    bounds-decide new .1 (bounds (released .if6 .left) (passed (c .before .key-fits .ensures) (c .if7 .left)))
 
 pub insert-refusal-spec : {M : Type 1} → statement M
 insert-refusal-spec =

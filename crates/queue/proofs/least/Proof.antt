@@ -1,6 +1,6 @@
 -- `queue::least` meets its contract: links not sound are refused with 5, and the search does the rest.
 use mathlib.Core.Path.{sym}
-use Rattle.basics.specs.Decides.{failed, passed}
+use Rattle.basics.specs.Facts.Decides.{failed, passed}
 use Rattle.queue.specs.Layout.{entries}
 use Rattle.queue.specs.Layout.Decide.{decide-sound}
 use Rattle.queue.specs.Layout.First.{unsound-find}

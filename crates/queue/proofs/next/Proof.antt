@@ -1,7 +1,8 @@
 -- `queue::next` meets its contract: links not sound are refused with 5, and the search does the rest.
 use mathlib.Core.Path.{sym}
-use Rattle.basics.specs.Decides.{failed, passed}
-use Rattle.queue.specs.Entries.{after}
+use Rattle.basics.specs.Facts.Decides.{failed, passed}
+use Rattle.places.specs.Order.{triple}
+use Rattle.places.specs.Entries.{after}
 use Rattle.queue.specs.Layout.{entries}
 use Rattle.queue.specs.Layout.Decide.{decide-sound}
 use Rattle.queue.specs.Layout.First.{unsound-find}
@@ -13,7 +14,10 @@ is-sound-requires : tie.Need-is-sound-requires
 is-sound-requires c κs = search needs
 
 returns : tie.Need-returns
-returns c = sym (unsound-find (decide-sound (c .before .before .args .q)) (after (record { key = c .before .before .args .key; release = c .before .before .args .release; id = c .before .before .args .id }) (entries (c .before .before .args .q))) (failed (c .before .is-sound .ensures) (c .if1 .taken)))
+returns c =
+    let a = c .before .before .args in
+    let later = after (triple (a .key) (a .release) (a .id)) (entries (a .q)) in
+    sym (unsound-find (decide-sound (a .q)) later (failed (c .before .is-sound .ensures) (c .if1 .taken)))
 
 next-sound-requires : tie.Need-next-sound-requires
 next-sound-requires c κs = passed (c .before .is-sound .ensures) (c .if1 .left)

@@ -9,14 +9,14 @@ use native.Mathlib.Nat.{lt-irrefl}
 use native.Mathlib.Decide.{ℕ-discrete}
 use native.Mathlib.Omega.{arith}
 use lib.ListN.{length}
-use Rattle.queue.specs.Order.{Entry}
-use Rattle.queue.specs.Entries.{put, without, filed-as, moved-on, Filed, InBounds}
+use Rattle.places.specs.Order.{Entry}
+use Rattle.places.specs.Entries.{put, without, filed-as, moved-on, Filed, InBounds}
+use Rattle.places.specs.Facts.Collected.{of-collected, in-collected, collected-room, collected-full}
+use Rattle.places.specs.Facts.Entries.{in-put, put-new, put-old}
+use Rattle.places.specs.Changes.{IsPlaceOf, KeyFits}
 use Rattle.queue.specs.Layout.{id-at, key-at, entry-at, Holds, entries, Sound}
 use Rattle.queue.specs.Calls.{moved}
-use Rattle.queue.specs.Layout.Collected.{of-collected, in-collected, collected-room, collected-full}
-use Rattle.queue.specs.EntryFacts.{in-put, put-new, put-old}
 use Rattle.queue.specs.Layout.SoundFacts.{sound-in-bounds, fewer-in-bounds, in-without}
-use Rattle.queue.specs.Inner.{IsPlaceOf, KeyFits}
 use Rattle.queue.specs.declared.Queue.{Queue}
 use Rattle.queue.specs.Layout.Change.{place-filed, filed-place, filed-as-place}
 

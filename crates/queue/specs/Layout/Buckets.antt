@@ -5,13 +5,13 @@ use Prim.Native.Nat.{ℕ, _+_, _-_, _≤_, _<_}
 use native.Mathlib.Nat.{lt-irrefl, mod-lt}
 use native.Mathlib.Decide.{decLe, ℕ-discrete}
 use native.Mathlib.Omega.{arith}
-use Rattle.queue.specs.Order.{Entry, Before}
+use Rattle.places.specs.Order.{Entry, Before}
+use Rattle.places.specs.Soundness.{IsLeast}
 use Rattle.queue.specs.Layout.{id-at, key-at, release-at, next-at, prev-at, entry-at, Holds, IsNode, bucket-of-key, bucket-after, bucket-of, Sound}
 use Rattle.queue.specs.Layout.Ranks.{rank-at, low, high, rank-holds, rank-less, low-place, low-head, high-place, high-head, bucket-place, bucket-head}
 use Rattle.queue.specs.Layout.LinkFacts.{none-between}
-use Rattle.queue.specs.Layout.SoundnessFacts.{IsLeast}
 use Rattle.queue.specs.Layout.SoundFacts.{node-place, rank-links, sound-rank, sound-rank-once}
-use Rattle.queue.specs.Inner.{SearchFrom, IsFirstAfter}
+use Rattle.queue.specs.Linking.{SearchFrom, IsFirstAfter}
 use Rattle.queue.specs.declared.Queue.{Queue}
 
 -- at a bucket: no entry after the point has a key that was passed already
@@ -45,7 +45,8 @@ module _ (q : Queue) (sound : Sound q) (from : ℕ) (point : Entry) (start : Sea
   bucket-below found bucket left at = rw (at .is-bucket) (mod-lt (from + (480 - left)) {m = 480} (omega arith))
 
   -- no entry of the bucket lies between a node and the next, so what is ahead of the node and not the node is ahead of the next
-  pub ahead-of-next : (x i : ℕ) → IsNode (rank-at q) x → Holds q i → bucket-of (key-at q) x ≡ bucket-of-key (key-at q i) → low (rank-at q) x < rank-at q i → high (rank-at q) (next-at q x) ≤ rank-at q i
+  pub ahead-of-next : (x i : ℕ) → IsNode (rank-at q) x → Holds q i → bucket-of (key-at q) x ≡ bucket-of-key (key-at q i)
+      → low (rank-at q) x < rank-at q i → high (rank-at q) (next-at q x) ≤ rank-at q i
   ahead-of-next x i node holds bucket above = go (decLe (high (rank-at q) (next-at q x)) (rank-at q i))
     where
       go : Dec (high (rank-at q) (next-at q x) ≤ rank-at q i) → high (rank-at q) (next-at q x) ≤ rank-at q i
@@ -69,7 +70,8 @@ module _ (q : Queue) (sound : Sound q) (from : ℕ) (point : Entry) (start : Sea
         ahead = λ i holds after same. ahead-of-next h i head holds (own ∙ sym same) (omega (arith, low-head (rank-at q) h (omega arith), place-rank q i holds));
       })
 
-  pub at-next-node : (found bucket n m : ℕ) → AtNode q point found bucket n → n < 64 → (Before point (entry-at q n) → ⊥) → m ≡ next-at q n → AtNode q point found bucket m
+  pub at-next-node : (found bucket n m : ℕ) → AtNode q point found bucket n → n < 64
+      → (Before point (entry-at q n) → ⊥) → m ≡ next-at q n → AtNode q point found bucket m
   at-next-node found bucket n m at inside not-after is =
       let l = rank-links q sound n (at .node) in
       subst⁻¹ (AtNode q point found bucket) is
@@ -86,12 +88,13 @@ module _ (q : Queue) (sound : Sound q) (from : ℕ) (point : Entry) (start : Sea
           go : Dec (rank-at q n ≡ rank-at q i) → low (rank-at q) n < rank-at q i
           go (yes same) =
               let here = node-place q n (at .node) inside in
-              absurd (not-after (subst⁻¹ (λ (j : ℕ). Before point (entry-at q j)) (sound-rank-once q sound n i inside (holds .0) (place-rank q n here) same) after))
+              let one : n ≡ i = sound-rank-once q sound n i inside (holds .0) (place-rank q n here) same in
+              absurd (not-after (subst⁻¹ (λ (j : ℕ). Before point (entry-at q j)) one after))
           go (no differ) = omega (arith, low-place (rank-at q) n inside, high-place (rank-at q) n inside)
 
   -- a bucket whose list is passed is passed
-  pub at-next-bucket : (found₀ found bucket left n bucket′ left′ : ℕ) → AtBucket q from point found₀ bucket left → AtNode q point found bucket n → 64 ≤ n → 0 < left
-      → bucket′ ≡ bucket-after bucket → left′ ≡ left - 1 → AtBucket q from point found bucket′ left′
+  pub at-next-bucket : (found₀ found bucket left n bucket′ left′ : ℕ) → AtBucket q from point found₀ bucket left → AtNode q point found bucket n
+      → 64 ≤ n → 0 < left → bucket′ ≡ bucket-after bucket → left′ ≡ left - 1 → AtBucket q from point found bucket′ left′
   at-next-bucket found₀ found bucket left n bucket′ left′ at node head some is less =
       record {
         unfound = node .unfound;
@@ -106,7 +109,8 @@ module _ (q : Queue) (sound : Sound q) (from : ℕ) (point : Entry) (start : Sea
       go i holds after (no other) = omega (arith, at .ahead i holds after, at .is-bucket, at .within, less)
 
   -- the node where the search is left is the first after the point
-  pub left-at-node : (found₀ found bucket left n : ℕ) → AtBucket q from point found₀ bucket left → AtNode q point found bucket n → n < 64 → Before point (entry-at q n) → IsFirstAfter q point n
+  pub left-at-node : (found₀ found bucket left n : ℕ) → AtBucket q from point found₀ bucket left
+      → AtNode q point found bucket n → n < 64 → Before point (entry-at q n) → IsFirstAfter q point n
   left-at-node found₀ found bucket left n at node inside after =
       let here = node-place q n (node .node) inside in
       let in-bucket : bucket-of-key (key-at q n) ≡ bucket = sym (bucket-place (key-at q) n inside) ∙ node .in-bucket in
@@ -118,7 +122,8 @@ module _ (q : Queue) (sound : Sound q) (from : ℕ) (point : Entry) (start : Sea
         none = λ e. absurd (lt-irrefl 64 (omega arith));
       }
     where
-      no-earlier : (i : ℕ) → Holds q i → Before point (entry-at q i) → key-at q n ≡ from + (480 - left) → bucket-of-key (key-at q n) ≡ bucket → Before (entry-at q i) (entry-at q n) → ⊥
+      no-earlier : (i : ℕ) → Holds q i → Before point (entry-at q i) → key-at q n ≡ from + (480 - left)
+          → bucket-of-key (key-at q n) ≡ bucket → Before (entry-at q i) (entry-at q n) → ⊥
       no-earlier i holds later its-key in-bucket (inl less) = omega (arith, at .ahead i holds later)
       no-earlier i holds later its-key in-bucket (inr w) =
           let here = node-place q n (node .node) inside in

@@ -10,15 +10,16 @@ use native.Mathlib.Decide.{decLt, ℕ-discrete}
 use native.Mathlib.Omega.{arith}
 use lib.ListN.{length, set, length-set}
 use lib.Seq.{getD-set-same, set-getD, set-set}
-use Rattle.queue.specs.Order.{Entry}
-use Rattle.queue.specs.Entries.{put, without, filed-as, moved-on, Filed, InBounds}
+use Rattle.places.specs.Order.{Entry}
+use Rattle.places.specs.Entries.{put, without, filed-as, moved-on, Filed, InBounds}
+use Rattle.places.specs.Facts.Collected.{of-collected, in-collected, collected-full}
+use Rattle.places.specs.Facts.Entries.{put-new, entry-set}
+use Rattle.places.specs.Changes.{IsPlaceOf}
 use Rattle.queue.specs.Layout.{id-at, key-at, release-at, entry-at, next-at, prev-at, Holds, entries, Sound}
 use Rattle.queue.specs.Layout.Ranks.{rank, rank-at, rank-holds}
 use Rattle.queue.specs.Calls.{moved, HasEntries}
-use Rattle.queue.specs.Layout.Collected.{of-collected, in-collected, collected-full}
-use Rattle.queue.specs.EntryFacts.{put-new, entry-set}
 use Rattle.queue.specs.Layout.SoundFacts.{rank-links, rank-small, new-rank, put-entries, put-sound, taken-entries, taken-sound, node-below, sound-once}
-use Rattle.queue.specs.Inner.{HasShape, IsPlaceOf, IsPosition, IsNew, IsNewRank, CanPut, put-before, CanTake, taken-out, CanInsert, CanMove, CanMoveAt, IsMovedAt}
+use Rattle.queue.specs.Linking.{HasShape, IsPosition, IsNew, IsNewRank, CanPut, put-before, CanTake, taken-out, CanInsert, CanMove, CanMoveAt, IsMovedAt}
 use Rattle.queue.specs.declared.Queue.{Queue}
 
 -- an id at a place is filed
@@ -40,7 +41,8 @@ filed-place q id x filed place =
     go i below some there (no outside) = absurd (place .absent (omega (arith, place .within)) i below there)
 
 -- an entry within the bounds whose id is new has a new rank
-new-id-rank : (q : Queue) → Sound q → (e : Entry) (r : ℕ) → IsNew q (e .id) → e .release ≤ e .key → e .key ≤ 2_000_000_000 → r ≡ rank (e .release) (e .id) → IsNewRank q r
+new-id-rank : (q : Queue) → Sound q → (e : Entry) (r : ℕ) → IsNew q (e .id)
+    → e .release ≤ e .key → e .key ≤ 2_000_000_000 → r ≡ rank (e .release) (e .id) → IsNewRank q r
 new-id-rank q sound e r new before within is =
     record {
       some = rw is (rank-holds (e .release) (e .id) (new .some));
@@ -77,9 +79,11 @@ module _ (q : Queue) (e : Entry) (can : CanInsert q e) where
 
   pub insert-can-put : (x n r : ℕ) → IsPlaceOf (q .ids) 0 x → IsPosition q (e .key) r n → CanPut q x n
   insert-can-put x n r place position =
-      (insert-place x place, node-below (rank-at q) n (position .node), node-below (rank-at q) (prev-at q n) (rank-links q (can .sound) n (position .node) .prev-is-node))
+      let l = rank-links q (can .sound) n (position .node) in
+      (insert-place x place, node-below (rank-at q) n (position .node), node-below (rank-at q) (prev-at q n) (l .prev-is-node))
 
-  pub insert-entries : HasShape q → (x n r : ℕ) → IsPlaceOf (q .ids) 0 x → r ≡ rank (e .release) (e .id) → IsPosition q (e .key) r n → HasEntries (put-before q x e n) (put e (entries q))
+  pub insert-entries : HasShape q → (x n r : ℕ) → IsPlaceOf (q .ids) 0 x → r ≡ rank (e .release) (e .id)
+      → IsPosition q (e .key) r n → HasEntries (put-before q x e n) (put e (entries q))
   insert-entries shape x n r place is position =
       let inside = insert-place x place in
       let free = place .found inside in
@@ -100,7 +104,8 @@ module _ (q : Queue) (x : ℕ) (sound : Sound q) (holds : Holds q x) where
   delete-entries shape = record { sound = taken-sound q sound shape x holds; content = taken-entries q sound shape x holds }
 
 -- an id is filed as the one entry that has it
-pub filed-as-only : (id : ℕ) (es : List Entry) (e : Entry) → List·Mem e es → e .id ≡ id → ((d : Entry) → List·Mem d es → d .id ≡ id → d ≡ e) → filed-as id es ≡ e
+pub filed-as-only : (id : ℕ) (es : List Entry) (e : Entry) → List·Mem e es → e .id ≡ id
+    → ((d : Entry) → List·Mem d es → d .id ≡ id → d ≡ e) → filed-as id es ≡ e
 unfolding filed-as
 filed-as-only id [] e m same only = absurd (not-mem-nil m)
 filed-as-only id (x ∷ xs) e m same only = go (ℕ-discrete (x .id) id) (λ m′. filed-as-only id xs e m′ same (λ d md. only d (mem-cons-of-mem x md)))
@@ -161,7 +166,8 @@ module _ (q : Queue) (amount x : ℕ) (can-at : CanMoveAt q x amount) where
       some = can-at .holds .1;
       small = sound .ids-in-range x (can-at .holds);
       unused = λ i below same. ∥∥₁-elim (place-filed left i (below, rw same (can-at .holds .1))) ⊥-prop
-          (λ w. mem-filter (λ (e : Entry). Dec·not (ℕ-discrete (e .id) id)) {l = entries q} .0 (subst (λ (l : List Entry). List·Mem (w .0) l) (rest .content) (w .1)) .1 (w .2 ∙ same));
+          (λ w. let among-rest = subst (λ (l : List Entry). List·Mem (w .0) l) (rest .content) (w .1) in
+          mem-filter (λ (e : Entry). Dec·not (ℕ-discrete (e .id) id)) {l = entries q} .0 among-rest .1 (w .2 ∙ same));
     },
   )
 
@@ -170,9 +176,11 @@ module _ (q : Queue) (amount x : ℕ) (can-at : CanMoveAt q x amount) where
 
   pub move-can-put : (n r : ℕ) → IsPosition left (key-at q x + amount) r n → CanPut left x n
   move-can-put n r position =
-      (can-at .holds .0, node-below (rank-at left) n (position .node), node-below (rank-at left) (prev-at left n) (rank-links left (rest .sound) n (position .node) .prev-is-node))
+      let l = rank-links left (rest .sound) n (position .node) in
+      (can-at .holds .0, node-below (rank-at left) n (position .node), node-below (rank-at left) (prev-at left n) (l .prev-is-node))
 
-  pub moved-at : (n k : ℕ) → k ≡ rank (release-at q x + amount) id → IsPosition left (key-at q x + amount) k n → (r : Queue) → r ≡ put-before left x later n → IsMovedAt q x amount r
+  pub moved-at : (n k : ℕ) → k ≡ rank (release-at q x + amount) id → IsPosition left (key-at q x + amount) k n
+      → (r : Queue) → r ≡ put-before left x later n → IsMovedAt q x amount r
   moved-at n k is-rank position r is =
       let inside = can-at .holds .0 in
       let new = move-new .1 in
@@ -180,11 +188,12 @@ module _ (q : Queue) (amount x : ℕ) (can-at : CanMoveAt q x amount) where
       let at = subst (λ (j : ℕ). IsPosition left (key-at q x + amount) j n) is-rank position in
       let same : put later (entries left) ≡ moved id amount (entries q) =
       ap (put later) (rest .content) ∙ ap (λ (e : Entry). put (moved-on amount e) (without id (entries q))) (sym move-as) in
+      let bounds = subst⁻¹ InBounds same (can-at .can .bounds) in
       subst⁻¹ (IsMovedAt q x amount) is
       (record {
         shape = put-shape;
         has-entries = record {
-          sound = put-sound left (rest .sound) left-shape x later n inside free (new .some) (new .small) (new .unused) at (subst⁻¹ InBounds same (can-at .can .bounds));
+          sound = put-sound left (rest .sound) left-shape x later n inside free (new .some) (new .small) (new .unused) at bounds;
           content = put-entries left (rest .sound) left-shape x later n inside free (new .some) (new .small) (new .unused) at ∙ same;
         };
         places = set-set (q .ids) x 0 id ∙ set-getD (q .ids) x 0;

@@ -5,15 +5,15 @@ use mathlib.Core.HLevel.{⊥-prop}
 use mathlib.Core.List.{List, [], _∷_, List·Mem, Pairwise·filter, pairwise-cons, mem-filter, filter-eq-self, not-mem-nil, mem-cons-self, eq-or-mem-of-mem-cons}
 use Prim.Native.Nat.{ℕ, _<_}
 use native.Mathlib.Omega.{arith}
-use Rattle.basics.specs.Lexicographic.{then-zero}
-use Rattle.queue.specs.Order.{Entry, Before, before, triple}
-use Rattle.queue.specs.Entries.{after}
+use Rattle.basics.specs.Facts.Lexicographic.{then-zero}
+use Rattle.places.specs.Order.{Entry, Before, before, triple}
+use Rattle.places.specs.Entries.{after}
+use Rattle.places.specs.Facts.Collected.{of-collected, in-collected, collected-in-order}
+use Rattle.places.specs.Facts.Entries.{InOrder, entry-set, before-prop}
 use Rattle.queue.specs.Layout.{id-at, key-at, release-at, entry-at, Holds, entries, Sound}
 use Rattle.queue.specs.Calls.{first-of, refused-find}
-use Rattle.queue.specs.Layout.Collected.{of-collected, in-collected, collected-in-order}
-use Rattle.queue.specs.EntryFacts.{InOrder, entry-set, before-prop}
 use Rattle.queue.specs.Layout.SoundFacts.{sound-once}
-use Rattle.queue.specs.Inner.{IsFirstAfter}
+use Rattle.queue.specs.Linking.{IsFirstAfter}
 use Rattle.queue.specs.declared.Queue.{Queue}
 use Rattle.queue.specs.declared.Found.{Found}
 
@@ -23,17 +23,19 @@ unfolding first-of
 first-none (no unsound) sound = absurd (unsound sound)
 first-none (yes s) sound = refl
 
-pub first-some : {q : Queue} (d : Dec (Sound q)) → Sound q → (e : Entry) (es : List Entry) → first-of d (e ∷ es) ≡ record { answer = 0; key = e .key; release = e .release; id = e .id }
+pub first-some : {q : Queue} (d : Dec (Sound q)) → Sound q → (e : Entry) (es : List Entry)
+    → first-of d (e ∷ es) ≡ record { answer = 0; key = e .key; release = e .release; id = e .id }
 unfolding first-of
 first-some (no unsound) sound e es = absurd (unsound sound)
 first-some (yes s) sound e es = refl
 
 -- an entry of a list in order that none comes before is its first
-first-is : (es : List Entry) → InOrder es → (e : Entry) → List·Mem e es → ((a : Entry) → List·Mem a es → Before a e → ⊥) → {q : Queue} (d : Dec (Sound q)) → Sound q
-    → first-of d es ≡ record { answer = 0; key = e .key; release = e .release; id = e .id }
+first-is : (es : List Entry) → InOrder es → (e : Entry) → List·Mem e es → ((a : Entry) → List·Mem a es → Before a e → ⊥)
+    → {q : Queue} (d : Dec (Sound q)) → Sound q → first-of d es ≡ record { answer = 0; key = e .key; release = e .release; id = e .id }
 first-is [] sorted e m least d sound = absurd (not-mem-nil m)
 first-is (x ∷ xs) sorted e m least d sound =
-    let same : e ≡ x = Or·elim (entry-set e x) (eq-or-mem-of-mem-cons m) (λ here. here) (λ later. absurd (least x mem-cons-self (pairwise-cons .0 sorted .0 e later))) in
+    let same : e ≡ x = Or·elim (entry-set e x) (eq-or-mem-of-mem-cons m) (λ here. here)
+    (λ later. absurd (least x mem-cons-self (pairwise-cons .0 sorted .0 e later))) in
     first-some d sound x xs ∙ ap {B = Found} (λ (a : Entry). record { answer = 0; key = a .key; release = a .release; id = a .id }) (sym same)
 
 none-is : (es : List Entry) → ((a : Entry) → List·Mem a es → ⊥) → {q : Queue} (d : Dec (Sound q)) → Sound q → first-of d es ≡ refused-find 25
@@ -57,9 +59,11 @@ module _ (q : Queue) (sound : Sound q) (point : Entry) (x : ℕ) (is : IsFirstAf
   unfolding after entries
   after-found inside =
       let here = is .found inside in
-      first-is (after point (entries q)) (Pairwise·filter (λ (e : Entry). before point e) (collected-in-order (entry-at q) (sound-once q sound) 64 (omega arith))) (entry-at q x)
+      let in-order = collected-in-order (entry-at q) (sound-once q sound) 64 (omega arith) in
+      first-is (after point (entries q)) (Pairwise·filter (λ (e : Entry). before point e) in-order) (entry-at q x)
       (mem-filter (λ (e : Entry). before point e) .1 (in-collected (entry-at q) 64 x (here .0 .0) (here .0 .1), here .1))
-      (λ a m earlier. ∥∥₁-elim (of-after a m) ⊥-prop (λ w. is .first inside (w .0) (w .1) (w .2) (subst (λ (e : Entry). Before e (entry-at q x)) (w .3) earlier))) d sound
+      (λ a m earlier. ∥∥₁-elim (of-after a m) ⊥-prop
+      (λ w. is .first inside (w .0) (w .1) (w .2) (subst (λ (e : Entry). Before e (entry-at q x)) (w .3) earlier))) d sound
 
   pub after-none : x ≡ 64 → first-of d (after point (entries q)) ≡ refused-find 25
   after-none none = none-is (after point (entries q)) (λ a m. ∥∥₁-elim (of-after a m) ⊥-prop (λ w. is .none none (w .0) (w .1) (w .2))) d sound
@@ -69,7 +73,8 @@ pub all-after-zero : (q : Queue) → after (triple 0 0 0) (entries q) ≡ entrie
 unfolding after entries
 all-after-zero q =
     filter-eq-self (λ (e : Entry). before (triple 0 0 0) e) {l = entries q} .1
-    (λ a m. ∥∥₁-elim (of-collected (entry-at q) 64 a m) (before-prop (triple 0 0 0) a) (λ w. subst⁻¹ (Before (triple 0 0 0)) (w .3) (then-zero (key-at q (w .0)) (then-zero (release-at q (w .0)) (w .2)))))
+    (λ a m. ∥∥₁-elim (of-collected (entry-at q) 64 a m) (before-prop (triple 0 0 0) a)
+    (λ w. subst⁻¹ (Before (triple 0 0 0)) (w .3) (then-zero (key-at q (w .0)) (then-zero (release-at q (w .0)) (w .2)))))
 
 pub found-inside : {q : Queue} {point : Entry} {x : ℕ} → IsFirstAfter q point x → (x ≡ 64 → ⊥) → x < 64
 found-inside is some = omega (arith, is .within)

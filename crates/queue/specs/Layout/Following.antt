@@ -6,12 +6,14 @@ use Prim.Native.Nat.{ℕ, _+_, _-_, _≤_, _<_}
 use native.Mathlib.Bridge.{le-prop}
 use native.Mathlib.Nat.{lt-irrefl}
 use native.Mathlib.Omega.{arith}
-use Rattle.basics.specs.Lexicographic.{Then, then-zero}
-use Rattle.queue.specs.Order.{Entry, Before}
+use Rattle.basics.specs.Lexicographic.{Then}
+use Rattle.basics.specs.Facts.Lexicographic.{then-zero}
+use Rattle.places.specs.Order.{Entry, Before}
 use Rattle.queue.specs.Layout.{id-at, key-at, release-at, next-at, entry-at, Holds, IsNode, Sound, bucket-of-key, bucket-after}
 use Rattle.queue.specs.Layout.Ranks.{rank-at, low, rank-less, less-rank, low-place, low-head, high-place, bucket-place}
-use Rattle.queue.specs.Inner.{SearchFrom, IsFirstAfter, StandsAt, point-at}
-use Rattle.queue.specs.Layout.Buckets.{place-rank, AtBucket, AtNode, at-first-bucket, bucket-below, ahead-of-next, at-first-node, at-next-bucket, left-at-node, left-with-none}
+use Rattle.queue.specs.Linking.{SearchFrom, IsFirstAfter, StandsAt, point-at}
+use Rattle.queue.specs.Layout.Buckets.{place-rank, AtBucket, AtNode, at-first-bucket, bucket-below, ahead-of-next}
+use Rattle.queue.specs.Layout.Buckets.{at-first-node, at-next-bucket, left-at-node, left-with-none}
 use Rattle.queue.specs.Layout.SoundFacts.{node-place, rank-links}
 use Rattle.queue.specs.declared.Queue.{Queue}
 
@@ -40,7 +42,8 @@ module _ (q : Queue) (sound : Sound q) (key n : ℕ) (stands : StandsAt q key n)
   at-own-bucket = at-first-bucket q sound key point from-here (bucket-of-key key) refl
 
   -- what a node stands for is before an entry of the bucket exactly if its rank is
-  node-rank-less : (i : ℕ) → Holds q i → IsNode (rank-at q) n → Then (low (release-at q) n) (release-at q i) (low (id-at q) n < id-at q i) → low (rank-at q) n < rank-at q i
+  node-rank-less : (i : ℕ) → Holds q i → IsNode (rank-at q) n
+      → Then (low (release-at q) n) (release-at q i) (low (id-at q) n < id-at q i) → low (rank-at q) n < rank-at q i
   node-rank-less i holds (inr head) earlier = omega (arith, low-head (rank-at q) n (head .0), place-rank q i holds)
   node-rank-less i holds (inl place) earlier =
       let here = node-place q n (inl place) (place .0) in
@@ -48,7 +51,8 @@ module _ (q : Queue) (sound : Sound q) (key n : ℕ) (stands : StandsAt q key n)
       (rank-less (release-at q n) (release-at q i) (id-at q n) (id-at q i) (here .1) (sound .ids-in-range n here) (holds .1)
       (rw (low-place (release-at q) n (place .0), low-place (id-at q) n (place .0)) at earlier))
 
-  less-node-rank : (i : ℕ) → Holds q i → IsNode (rank-at q) n → low (rank-at q) n < rank-at q i → Then (low (release-at q) n) (release-at q i) (low (id-at q) n < id-at q i)
+  less-node-rank : (i : ℕ) → Holds q i → IsNode (rank-at q) n → low (rank-at q) n < rank-at q i
+      → Then (low (release-at q) n) (release-at q i) (low (id-at q) n < id-at q i)
   less-node-rank i holds (inr head) less = rw (low-head (release-at q) n (head .0), low-head (id-at q) n (head .0)) (then-zero (release-at q i) (holds .1))
   less-node-rank i holds (inl place) less =
       let here = node-place q n (inl place) (place .0) in
@@ -63,7 +67,8 @@ module _ (q : Queue) (sound : Sound q) (key n : ℕ) (stands : StandsAt q key n)
         unfound = refl;
         node = l .next-is-node;
         in-bucket = l .next-in-bucket ∙ stands .in-bucket;
-        ahead = λ i holds after same. ahead-of-next q sound key point from-here n i (stands .node) holds (stands .in-bucket ∙ sym same) (above i holds (own-key i holds same) after);
+        ahead = λ i holds after same.
+            ahead-of-next q sound key point from-here n i (stands .node) holds (stands .in-bucket ∙ sym same) (above i holds (own-key i holds same) after);
       }
     where
       above : (i : ℕ) → Holds q i → key-at q i ≡ key → Before point (entry-at q i) → low (rank-at q) n < rank-at q i
@@ -85,8 +90,8 @@ module _ (q : Queue) (sound : Sound q) (key n : ℕ) (stands : StandsAt q key n)
   -- with the list at its end, the later buckets are searched
   pub after-own : (x bucket own : ℕ) → x ≡ next-at q n → 64 ≤ x → own ≡ bucket-of-key key → bucket ≡ bucket-after own → AtBucket q key point 64 bucket 479
   after-own x bucket own is end is-own is-bucket =
-      at-next-bucket q sound key point from-here 64 64 (bucket-of-key key) 480 (next-at q n) bucket 479 at-own-bucket at-own-next (omega (arith, is, end)) (omega arith)
-      (is-bucket ∙ omega (arith, is-own)) refl
+      at-next-bucket q sound key point from-here 64 64 (bucket-of-key key) 480 (next-at q n) bucket 479 at-own-bucket at-own-next
+      (omega arith) (omega arith) (is-bucket ∙ omega (arith, is-own)) refl
 
   module _ (bucket left : ℕ) (at : AtBucket q key point 64 bucket left) (some : 0 < left) (first : ℕ) (is : first ≡ next-at q (64 + bucket)) where
     at-first : AtNode q point 64 bucket first

@@ -8,10 +8,10 @@ use native.Mathlib.Decide.{decLt}
 use native.Mathlib.Omega.{arith}
 use lib.ListN.{length, getD, set, replicate, length-set, getD-replicate, List·getD-append}
 use lib.Seq.{getD-set-same, getD-set-other, getD-append-add, ext-getD}
-use Rattle.queue.specs.Order.{Entry}
-use Rattle.queue.specs.Layout.{queue-of, numbers-from, lone-heads, empty-queue, id-at, key-at, entry-at, next-at, prev-at, Holds, collected, entries, IsNode, bucket-of, Linked}
+use Rattle.places.specs.Facts.Collected.{none-collected}
+use Rattle.queue.specs.Layout.{queue-of, numbers-from, lone-heads, empty-queue}
+use Rattle.queue.specs.Layout.{id-at, key-at, entry-at, next-at, prev-at, Holds, entries, IsNode, bucket-of, Linked}
 use Rattle.queue.specs.Layout.Ranks.{low, high}
-use Rattle.queue.specs.Layout.Collected.{collected-none}
 use Rattle.queue.specs.Calls.{HasEntries}
 use Rattle.queue.specs.declared.Queue.{Queue}
 
@@ -69,7 +69,9 @@ one-head-more links x below heads =
 -- with all heads linked, the queue is the empty one
 pub all-alone : (links : List ℕ) (x : ℕ) → 544 ≤ x → HeadsAlone links x → queue-of (replicate 64 0) (replicate 64 0) (replicate 64 0) links links ≡ empty-queue
 unfolding empty-queue
-all-alone links x all heads = ap (λ (ls : List ℕ). queue-of (replicate 64 0) (replicate 64 0) (replicate 64 0) ls ls) (ext-getD 0 links lone-heads (heads .size ∙ sym lone-heads-size) each)
+all-alone links x all heads =
+    ap (λ (ls : List ℕ). queue-of (replicate 64 0) (replicate 64 0) (replicate 64 0) ls ls)
+    (ext-getD 0 links lone-heads (heads .size ∙ sym lone-heads-size) each)
   where
     each : (j : ℕ) → j < length links → getD links j 0 ≡ getD lone-heads j 0
     each j below = go (decLt j 64)
@@ -78,14 +80,9 @@ all-alone links x all heads = ap (λ (ls : List ℕ). queue-of (replicate 64 0) 
         go (yes place) = heads .free j place ∙ sym (lone-heads-free j place)
         go (no head) = heads .alone j (omega arith) (omega (arith, heads .size)) ∙ sym (lone-heads-alone j (omega arith) (omega (arith, heads .size)))
 
--- ids all 0 leave nothing to collect
-none-collected : (places : ℕ → Entry) (n : ℕ) → ((i : ℕ) → i < n → places i .id ≡ 0) → collected places n ≡ []
-unfolding collected
-none-collected places zero free = refl
-none-collected places (suc n) free = collected-none places n (free n (omega arith)) ∙ none-collected places n (λ i below. free i (omega arith))
-
 -- with every place free and every head its own neighbour, a queue is sound and has no entry
-module _ (q : Queue) (free : (i : ℕ) → i < 64 → id-at q i ≡ 0) (next-alone : (j : ℕ) → 64 ≤ j → j < 544 → next-at q j ≡ j) (prev-alone : (j : ℕ) → 64 ≤ j → j < 544 → prev-at q j ≡ j) where
+module _ (q : Queue) (free : (i : ℕ) → i < 64 → id-at q i ≡ 0)
+    (next-alone : (j : ℕ) → 64 ≤ j → j < 544 → next-at q j ≡ j) (prev-alone : (j : ℕ) → 64 ≤ j → j < 544 → prev-at q j ≡ j) where
   empty-place : {i : ℕ} → Holds q i → ⊥
   empty-place {i} holds = lt-irrefl 0 (omega (arith, holds .1, free i (holds .0)))
 

@@ -8,12 +8,12 @@ use native.Mathlib.Bridge.{le-prop}
 use native.Mathlib.Decide.{ℕ-discrete}
 use native.Mathlib.Omega.{arith}
 use lib.ListN.{length, getD-replicate}
-use Rattle.queue.specs.Order.{Entry}
-use Rattle.queue.specs.Entries.{put, without, filed-as, moved-on}
+use Rattle.places.specs.Order.{Entry}
+use Rattle.places.specs.Entries.{put, without, moved-on}
+use Rattle.places.specs.Facts.Entries.{InOrder, entry-set, in-put, put-new, put-old}
+use Rattle.places.specs.Facts.Collected.{of-collected, collected-in-order, collected-length}
 use Rattle.queue.specs.Layout.{entry-at, entries, empty-queue, Sound}
 use Rattle.queue.specs.Calls.{moved, HasEntries}
-use Rattle.queue.specs.EntryFacts.{InOrder, entry-set, in-put, put-new, put-old}
-use Rattle.queue.specs.Layout.Collected.{of-collected, collected-in-order, collected-length}
 use Rattle.queue.specs.Layout.SoundFacts.{sound-once}
 use Rattle.queue.specs.Layout.Change.{filed-as-only}
 use Rattle.queue.specs.Layout.Heads.{lone-heads-alone, alone-empty}
@@ -23,6 +23,10 @@ use Rattle.queue.specs.declared.Queue.{Queue}
 pub empty-has-none : HasEntries empty-queue []
 unfolding empty-queue
 empty-has-none = alone-empty empty-queue (λ i below. getD-replicate 64 i 0 0 below) lone-heads-alone lone-heads-alone
+
+-- No two entries have one id.
+abbrev pub AreOnce : List Entry → Type 0
+AreOnce es = (d e : Entry) → List·Mem d es → List·Mem e es → d .id ≡ e .id → d ≡ e
 
 module _ (q : Queue) (sound : Sound q) where
   -- entries are in order, by key, then release, then id
@@ -43,7 +47,7 @@ module _ (q : Queue) (sound : Sound q) where
       (λ w. subst⁻¹ (λ (a : Entry). (1 ≤ a .id) × (a .id ≤ 32767)) (w .3) (w .2, sound .ids-in-range (w .0) (w .1, w .2)))
 
   -- .. and each is filed once
-  pub entry-once : (d e : Entry) → List·Mem d (entries q) → List·Mem e (entries q) → d .id ≡ e .id → d ≡ e
+  pub entry-once : AreOnce (entries q)
   unfolding entries
   entry-once d e md me same =
       ∥∥₁-elim (of-collected (entry-at q) 64 d md) (entry-set d e)
@@ -62,15 +66,10 @@ in-without-iff id es e = mem-filter (λ (a : Entry). Dec·not (ℕ-discrete (a .
 pub in-put-iff : (new : Entry) (es : List Entry) (e : Entry) → List·Mem e (put new es) ↔ ((e ≡ new) ∨₁ List·Mem e es)
 in-put-iff new es e = (in-put new es e, λ either. Or·elim ∥∥₁-prop either (λ same. rw same (put-new new es)) (put-old new es e))
 
-module _ (q : Queue) (sound : Sound q) where
-  -- an id is filed as its entry
-  pub filed-as-entry : (e : Entry) → List·Mem e (entries q) → filed-as (e .id) (entries q) ≡ e
-  filed-as-entry e m = filed-as-only (e .id) (entries q) e m refl (λ d md same. entry-once q sound d e md m same)
-
-  -- the entries after a move: the moved one, and those of other ids
-  pub in-moved-iff : (d : Entry) → List·Mem d (entries q) → (amount : ℕ) → (e : Entry)
-      → List·Mem e (moved (d .id) amount (entries q)) ↔ ((e ≡ moved-on amount d) ∨₁ (List·Mem e (entries q) × (e .id ≡ d .id → ⊥)))
-  in-moved-iff d m amount e =
-      rw (filed-as-entry d m)
-      (Iff·trans (in-put-iff (moved-on amount d) (without (d .id) (entries q)) e)
-      (Iff·or Iff·rfl (in-without-iff (d .id) (entries q) e)))
+-- the entries after a move: the moved one, and those of other ids
+pub in-moved-iff : (es : List Entry) → AreOnce es → (d : Entry) → List·Mem d es → (amount : ℕ) → (e : Entry)
+    → List·Mem e (moved (d .id) amount es) ↔ ((e ≡ moved-on amount d) ∨₁ (List·Mem e es × (e .id ≡ d .id → ⊥)))
+in-moved-iff es once d m amount e =
+    rw (filed-as-only (d .id) es d m refl (λ c mc same. once c d mc m same))
+    (Iff·trans (in-put-iff (moved-on amount d) (without (d .id) es) e)
+    (Iff·or Iff·rfl (in-without-iff (d .id) es e)))

@@ -5,13 +5,9 @@ use Prim.Native.Nat.{ℕ, _-_, _≤_, _<_}
 use native.Mathlib.Nat.{lt-irrefl}
 use native.Mathlib.Decide.{decLt, ℕ-discrete}
 use native.Mathlib.Omega.{arith}
+use Rattle.places.specs.Collected.{IsSet}
 use Rattle.queue.specs.Layout.{IsNode, bucket-of-key, bucket-of}
 use Rattle.queue.specs.Layout.Ranks.{low, high, RankLinked, AllRankLinked, low-place, high-place, bucket-place}
-
--- f′ is f with the value v at x
-pub record IsSet {A : Type 0} (f : ℕ → A) (x : ℕ) (v : A) (f′ : ℕ → A) : Type 0 where
-  pub at : f′ x ≡ v
-  pub elsewhere : (y : ℕ) → (y ≡ x → ⊥) → f′ y ≡ f y
 
 -- what is said of a node hangs on its own id and key
 module _ (ids ids′ keys keys′ : ℕ → ℕ) (y : ℕ) (same-id : ids′ y ≡ ids y) (same-key : keys′ y ≡ keys y) where
@@ -42,15 +38,18 @@ both-ok : (ids keys next prev : ℕ → ℕ) (y : ℕ) → NextOk ids keys next 
 both-ok ids keys next prev y on back =
     record { next-is-node = on .0; next-in-bucket = on .1; next-returns = on .2; in-order = on .3; prev-is-node = back .0; prev-returns = back .1 }
 
-module _ (ids ids′ keys keys′ next′ prev′ : ℕ → ℕ) (y z : ℕ) (same-y : (ids′ y ≡ ids y) × (keys′ y ≡ keys y)) (same-z : (ids′ z ≡ ids z) × (keys′ z ≡ keys z)) where
+module _ (ids ids′ keys keys′ next′ prev′ : ℕ → ℕ) (y z : ℕ)
+    (same-y : (ids′ y ≡ ids y) × (keys′ y ≡ keys y)) (same-z : (ids′ z ≡ ids z) × (keys′ z ≡ keys z)) where
   -- a link from y to z between nodes whose ids and keys are as before
   next-kept : IsNode ids z → bucket-of keys z ≡ bucket-of keys y → low ids y < high ids z → next′ y ≡ z → prev′ z ≡ y → NextOk ids′ keys′ next′ prev′ y
-  next-kept node bucket order to back = (
-    rw to (keep-node ids ids′ keys keys′ z (same-z .0) (same-z .1) node),
-    ap (bucket-of keys′) to ∙ (keep-bucket ids ids′ keys keys′ z (same-z .0) (same-z .1) ∙ (bucket ∙ sym (keep-bucket ids ids′ keys keys′ y (same-y .0) (same-y .1)))),
-    ap prev′ to ∙ back,
-    rw (to, keep-low ids ids′ keys keys′ y (same-y .0) (same-y .1), keep-high ids ids′ keys keys′ z (same-z .0) (same-z .1)) order,
-  )
+  next-kept node bucket order to back =
+      let from-bucket = keep-bucket ids ids′ keys keys′ y (same-y .0) (same-y .1) in
+      let to-bucket = keep-bucket ids ids′ keys keys′ z (same-z .0) (same-z .1) in (
+        rw to (keep-node ids ids′ keys keys′ z (same-z .0) (same-z .1) node),
+        ap (bucket-of keys′) to ∙ (to-bucket ∙ (bucket ∙ sym from-bucket)),
+        ap prev′ to ∙ back,
+        rw (to, keep-low ids ids′ keys keys′ y (same-y .0) (same-y .1), keep-high ids ids′ keys keys′ z (same-z .0) (same-z .1)) order,
+      )
 
   prev-kept : IsNode ids z → prev′ y ≡ z → next′ z ≡ y → PrevOk ids′ next′ prev′ y
   prev-kept node to on = (rw to (keep-node ids ids′ keys keys′ z (same-z .0) (same-z .1) node), ap next′ to ∙ on)
@@ -86,9 +85,10 @@ module _ (ids ids′ keys keys′ next next′ prev prev′ : ℕ → ℕ) (x id
   at-x =
       let n = next p in
       let k = kept n n-node in
+      let n-bucket = keep-bucket ids ids′ keys keys′ n (k .0) (k .1) in
       record {
         next-is-node = rw from-x (keep-node ids ids′ keys keys′ n (k .0) (k .1) n-node);
-        next-in-bucket = ap (bucket-of keys′) from-x ∙ (keep-bucket ids ids′ keys keys′ n (k .0) (k .1) ∙ (linked p p-node .next-in-bucket ∙ (bucket ∙ sym x-bucket)));
+        next-in-bucket = ap (bucket-of keys′) from-x ∙ (n-bucket ∙ (linked p p-node .next-in-bucket ∙ (bucket ∙ sym x-bucket)));
         next-returns = ap prev′ from-x ∙ to-n;
         in-order = rw (from-x, low-place ids′ x inside, set-id .at, keep-high ids ids′ keys keys′ n (k .0) (k .1)) below;
         prev-is-node = rw to-x (keep-node ids ids′ keys keys′ p (kept p p-node .0) (kept p p-node .1) p-node);
@@ -143,7 +143,9 @@ module _ (ids ids′ keys keys′ next next′ prev prev′ : ℕ → ℕ) (x ke
 
   -- ids rise past x, so x is neither its own next nor its own previous
   next-differs : next x ≡ x → ⊥
-  next-differs e = lt-irrefl (ids x) (subst (λ (z : ℕ). ids x < z) (ap (high ids) e ∙ high-place ids x inside) (rw (low-place ids x inside) at (gone .in-order)))
+  next-differs e =
+      let rises = rw (low-place ids x inside) at (gone .in-order) in
+      lt-irrefl (ids x) (subst (λ (z : ℕ). ids x < z) (ap (high ids) e ∙ high-place ids x inside) rises)
 
   prev-differs : prev x ≡ x → ⊥
   prev-differs e = next-differs (sym (ap next e) ∙ gone .prev-returns)
@@ -159,10 +161,11 @@ module _ (ids ids′ keys keys′ next next′ prev prev′ : ℕ → ℕ) (x ke
 
   next-left : (y : ℕ) → IsNode ids y → (y ≡ x → ⊥) → Dec (y ≡ prev x) → NextOk ids′ keys′ next′ prev′ y
   next-left y node other (yes e) =
+      let up-to-x = rw (gone .prev-returns, high-place ids x inside) at (before-gone .in-order) in
+      let on-from-x = rw (low-place ids x inside) at (gone .in-order) in
       subst⁻¹ (NextOk ids′ keys′ next′ prev′) e
       (next-kept ids ids′ keys keys′ next′ prev′ (prev x) (next x) (stays (prev x) prev-differs) (stays (next x) next-differs) (gone .next-is-node)
-      (gone .next-in-bucket ∙ (ap (bucket-of keys) (sym (gone .prev-returns)) ∙ before-gone .next-in-bucket))
-      (let a = rw (gone .prev-returns, high-place ids x inside) at (before-gone .in-order) in let b = rw (low-place ids x inside) at (gone .in-order) in omega arith) over under)
+      (gone .next-in-bucket ∙ (ap (bucket-of keys) (sym (gone .prev-returns)) ∙ before-gone .next-in-bucket)) (omega arith) over under)
   next-left y node other (no not-p) =
       let l = linked y node in
       let not-x : next y ≡ x → ⊥ = λ e. not-p (sym (l .next-returns) ∙ ap prev e) in

@@ -9,15 +9,17 @@ use native.Mathlib.Decide.{decLe, ℕ-discrete}
 use native.Mathlib.Omega.{arith}
 use lib.ListN.{length, getD, set, length-set}
 use lib.Seq.{getD-set-same, getD-set-other}
-use Rattle.basics.specs.Lexicographic.{then-rest}
-use Rattle.queue.specs.Order.{Entry, Before, triple}
-use Rattle.queue.specs.Entries.{put, without, InBounds}
+use Rattle.basics.specs.Facts.Lexicographic.{then-rest}
+use Rattle.places.specs.Order.{Entry, Before, triple}
+use Rattle.places.specs.Entries.{put, without, InBounds}
+use Rattle.places.specs.Collected.{Once, IsSet}
+use Rattle.places.specs.Facts.Collected.{of-collected, in-collected, put-once, put-collected, taken-once, taken-collected}
+use Rattle.places.specs.Facts.Entries.{entry-path}
 use Rattle.queue.specs.Layout.{id-at, key-at, release-at, entry-at, next-at, prev-at, Holds, entries, IsNode, bucket-of, AllLinked, Sound}
-use Rattle.queue.specs.Layout.Ranks.{rank, rank-at, low, high, RankLinked, AllRankLinked, rank-some, rank-none, rank-holds, holds-rank, rank-id, rank-less, less-rank, low-place, low-head, high-place, high-head, bucket-place}
-use Rattle.queue.specs.Layout.LinkChange.{IsSet, put-linked, taken-linked}
-use Rattle.queue.specs.Layout.Collected.{Once, of-collected, in-collected, put-once, put-collected, taken-once, taken-collected}
-use Rattle.queue.specs.Inner.{HasShape, put-before, taken-out, IsPosition}
-use Rattle.queue.specs.EntryFacts.{entry-path}
+use Rattle.queue.specs.Layout.Ranks.{rank, rank-at, low, high, RankLinked, AllRankLinked, low-place, low-head, high-place, high-head, bucket-place}
+use Rattle.queue.specs.Layout.Ranks.{rank-some, rank-none, rank-holds, holds-rank, rank-id, rank-less, less-rank}
+use Rattle.queue.specs.Layout.LinkChange.{put-linked, taken-linked}
+use Rattle.queue.specs.Linking.{HasShape, put-before, taken-out, IsPosition}
 use Rattle.queue.specs.declared.Queue.{Queue}
 
 is-set : (l : List ℕ) (x v : ℕ) → x < length l → IsSet (λ i. getD l i 0) x v (λ i. getD (set l x v) i 0)
@@ -67,7 +69,8 @@ one-key : (q : Queue) → ShortSpan q → (i j : ℕ) → Holds q i → Holds q 
 one-key q span i j hi hj same = omega (arith, span i j hi hj, span j i hj hi, same, bucket-place (key-at q) i (hi .0), bucket-place (key-at q) j (hj .0))
 
 -- nodes that are linked by their ranks are linked ..
-ranks-linked : (q : Queue) → ((i : ℕ) → Holds q i → id-at q i ≤ 32767) → ShortSpan q → AllRankLinked (rank-at q) (key-at q) (next-at q) (prev-at q) → AllLinked (entry-at q) (next-at q) (prev-at q)
+ranks-linked : (q : Queue) → ((i : ℕ) → Holds q i → id-at q i ≤ 32767) → ShortSpan q
+    → AllRankLinked (rank-at q) (key-at q) (next-at q) (prev-at q) → AllLinked (entry-at q) (next-at q) (prev-at q)
 ranks-linked q range span linked x node =
     let l = linked x (node-rank q x node) in
     let n = next-at q x in
@@ -88,7 +91,8 @@ ranks-linked q range span linked x node =
     }
 
 -- ids in range, ids apart, entries within the bounds, and links: that is all there is to soundness
-made-sound : (q : Queue) → ((i : ℕ) → Holds q i → id-at q i ≤ 32767) → Once (id-at q) → InBounds (entries q) → AllRankLinked (rank-at q) (key-at q) (next-at q) (prev-at q) → Sound q
+made-sound : (q : Queue) → ((i : ℕ) → Holds q i → id-at q i ≤ 32767) → Once (id-at q)
+    → InBounds (entries q) → AllRankLinked (rank-at q) (key-at q) (next-at q) (prev-at q) → Sound q
 made-sound q range once bounds links =
     record {
       ids-in-range = range;
@@ -103,8 +107,8 @@ made-sound q range once bounds links =
     span i j hi hj = bounds .span (entry-at q i) (entry-at q j) (in-entries q i hi) (in-entries q j hj)
 
 -- an entry set at a place, and its rank
-entry-set-at : (q q′ : Queue) (x : ℕ) (e : Entry) → IsSet (id-at q) x (e .id) (id-at q′) → IsSet (key-at q) x (e .key) (key-at q′) → IsSet (release-at q) x (e .release) (release-at q′)
-    → IsSet (entry-at q) x e (entry-at q′)
+entry-set-at : (q q′ : Queue) (x : ℕ) (e : Entry) → IsSet (id-at q) x (e .id) (id-at q′) → IsSet (key-at q) x (e .key) (key-at q′)
+    → IsSet (release-at q) x (e .release) (release-at q′) → IsSet (entry-at q) x e (entry-at q′)
 entry-set-at q q′ x e id key release =
     record {
       at = entry-path (entry-at q′ x) e (key .at) (release .at) (id .at);
@@ -127,13 +131,17 @@ rank-small release key id before within small = go (decLe 1 id)
     go (no none) = omega (arith, rank-none release id (omega arith))
 
 pub sound-rank : (q : Queue) → Sound q → (i : ℕ) → Holds q i → rank-at q i < 65_536_000_032_768
-sound-rank q sound i holds = rank-small (release-at q i) (key-at q i) (id-at q i) (sound .released i holds) (sound .keys-in-range i holds) (sound .ids-in-range i holds)
+sound-rank q sound i holds =
+    rank-small (release-at q i) (key-at q i) (id-at q i) (sound .released i holds) (sound .keys-in-range i holds) (sound .ids-in-range i holds)
 
 -- .. and in a sound queue nodes are linked by their ranks
 module _ (q : Queue) (sound : Sound q) (x : ℕ) where
-  by-rank : (n : ℕ) → IsNode (id-at q) x → IsNode (id-at q) n → bucket-of (key-at q) n ≡ bucket-of (key-at q) x → (x < 64 → n < 64 → Before (entry-at q x) (entry-at q n)) → low (rank-at q) x < high (rank-at q) n
+  by-rank : (n : ℕ) → IsNode (id-at q) x → IsNode (id-at q) n → bucket-of (key-at q) n ≡ bucket-of (key-at q) x
+      → (x < 64 → n < 64 → Before (entry-at q x) (entry-at q n)) → low (rank-at q) x < high (rank-at q) n
   by-rank n (inr head) (inr on) bucket order = omega (arith, low-head (rank-at q) x (head .0), high-head (rank-at q) n (on .0))
-  by-rank n (inr head) (inl on) bucket order = omega (arith, low-head (rank-at q) x (head .0), high-place (rank-at q) n (on .0), rank-holds (release-at q n) (id-at q n) (on .1))
+  by-rank n (inr head) (inl on) bucket order =
+      let ranked = rank-holds (release-at q n) (id-at q n) (on .1) in
+      omega (arith, low-head (rank-at q) x (head .0), high-place (rank-at q) n (on .0))
   by-rank n (inl place) (inr on) bucket order = omega (arith, low-place (rank-at q) x (place .0), high-head (rank-at q) n (on .0), sound-rank q sound x place)
   by-rank n (inl place) (inl on) bucket order =
       rw (low-place (rank-at q) x (place .0), high-place (rank-at q) n (on .0))
@@ -154,7 +162,8 @@ module _ (q : Queue) (sound : Sound q) (x : ℕ) where
       }
 
 -- a new id has a new rank
-pub new-rank : (q : Queue) → Sound q → (release id : ℕ) → 1 ≤ id → id ≤ 32767 → ((i : ℕ) → i < 64 → id-at q i ≡ id → ⊥) → (i : ℕ) → i < 64 → rank-at q i ≡ rank release id → ⊥
+pub new-rank : (q : Queue) → Sound q → (release id : ℕ) → 1 ≤ id → id ≤ 32767
+    → ((i : ℕ) → i < 64 → id-at q i ≡ id → ⊥) → (i : ℕ) → i < 64 → rank-at q i ≡ rank release id → ⊥
 new-rank q sound release id some small unused i below same = go (decLe 1 (id-at q i))
   where
     go : Dec (1 ≤ id-at q i) → ⊥
@@ -166,9 +175,12 @@ pub sound-rank-once : (q : Queue) → Sound q → Once (rank-at q)
 sound-rank-once q sound i j li lj holds same =
     let hi = holds-rank (release-at q i) (id-at q i) holds in
     let hj = holds-rank (release-at q j) (id-at q j) (rw same at holds) in
-    sound .once i j (li, hi) (lj, hj) (rank-id (release-at q i) (release-at q j) (id-at q i) (id-at q j) hi (sound .ids-in-range i (li, hi)) hj (sound .ids-in-range j (lj, hj)) same)
+    let small-i = sound .ids-in-range i (li, hi) in
+    let small-j = sound .ids-in-range j (lj, hj) in
+    sound .once i j (li, hi) (lj, hj) (rank-id (release-at q i) (release-at q j) (id-at q i) (id-at q j) hi small-i hj small-j same)
 
-module _ (q : Queue) (sound : Sound q) (shape : HasShape q) (x : ℕ) (e : Entry) (n : ℕ) (inside : x < 64) (free : id-at q x ≡ 0) (some : 1 ≤ e .id) (small : e .id ≤ 32767)
+module _ (q : Queue) (sound : Sound q) (shape : HasShape q) (x : ℕ) (e : Entry) (n : ℕ)
+    (inside : x < 64) (free : id-at q x ≡ 0) (some : 1 ≤ e .id) (small : e .id ≤ 32767)
     (unused : (i : ℕ) → i < 64 → id-at q i ≡ e .id → ⊥) (position : IsPosition q (e .key) (rank (e .release) (e .id)) n) where
   q′ : Queue
   q′ = put-before q x e n
@@ -206,14 +218,18 @@ module _ (q : Queue) (sound : Sound q) (shape : HasShape q) (x : ℕ) (e : Entry
   links′ : AllRankLinked (rank-at q′) (key-at q′) (next-at q′) (prev-at q′)
   unfolding q′ p node
   links′ =
+      let p-node = here .prev-is-node in
+      let p-below = node-below (rank-at q) p p-node in
+      let n-below = node-below (rank-at q) n node in
       put-linked (rank-at q) (rank-at q′) (key-at q) (key-at q′) (next-at q) (next-at q′) (prev-at q) (prev-at q′) x (rank (e .release) (e .id)) (e .key) p
-      (rank-links q sound) (rank-set-at q q′ x e set-entry) set-key inside free-rank (rank-holds (e .release) (e .id) some) (here .prev-is-node)
-      (sym (rank-links q sound p (here .prev-is-node) .next-in-bucket) ∙ (ap (bucket-of (key-at q)) (here .prev-returns) ∙ position .bucket))
+      (rank-links q sound) (rank-set-at q q′ x e set-entry) set-key inside free-rank (rank-holds (e .release) (e .id) some) p-node
+      (sym (rank-links q sound p p-node .next-in-bucket) ∙ (ap (bucket-of (key-at q)) (here .prev-returns) ∙ position .bucket))
       (position .above) (rw (here .prev-returns) (position .below))
-      (getD-set-other (set (q .next) p x) x p n 0 (not-x p (here .prev-is-node)) ∙ getD-set-same (q .next) p x 0 (omega (arith, shape .next, node-below (rank-at q) p (here .prev-is-node))))
+      (getD-set-other (set (q .next) p x) x p n 0 (not-x p p-node) ∙ getD-set-same (q .next) p x 0 (omega (arith, shape .next)))
       (getD-set-same (set (q .next) p x) x n 0 (omega (arith, shape .next, length-set (q .next) p x)) ∙ sym (here .prev-returns))
       (λ y not-p not-here. getD-set-other (set (q .next) p x) x y n 0 not-here ∙ getD-set-other (q .next) p y x 0 not-p)
-      (ap (prev-at q′) (here .prev-returns) ∙ (getD-set-other (set (q .prev) n x) x n p 0 (not-x n node) ∙ getD-set-same (q .prev) n x 0 (omega (arith, shape .prev, node-below (rank-at q) n node))))
+      (ap (prev-at q′) (here .prev-returns)
+      ∙ (getD-set-other (set (q .prev) n x) x n p 0 (not-x n node) ∙ getD-set-same (q .prev) n x 0 (omega (arith, shape .prev))))
       (getD-set-same (set (q .prev) n x) x p 0 (omega (arith, shape .prev, length-set (q .prev) n x)))
       (λ y not-n not-here. getD-set-other (set (q .prev) n x) x y p 0 not-here ∙ getD-set-other (q .prev) n y x 0 (λ e. not-n (e ∙ sym (here .prev-returns))))
 
@@ -233,7 +249,12 @@ module _ (q : Queue) (sound : Sound q) (shape : HasShape q) (x : ℕ) (e : Entry
 
 -- fewer entries are within the bounds too
 pub fewer-in-bounds : (es fs : List Entry) → ((e : Entry) → List·Mem e fs → List·Mem e es) → InBounds es → InBounds fs
-fewer-in-bounds es fs inside bounds = record { keys = λ e m. bounds .keys e (inside e m); released = λ e m. bounds .released e (inside e m); span = λ d e md me. bounds .span d e (inside d md) (inside e me) }
+fewer-in-bounds es fs inside bounds =
+    record {
+      keys = λ e m. bounds .keys e (inside e m);
+      released = λ e m. bounds .released e (inside e m);
+      span = λ d e md me. bounds .span d e (inside d md) (inside e me);
+    }
 
 pub in-without : (id : ℕ) (es : List Entry) (e : Entry) → List·Mem e (without id es) → List·Mem e es
 unfolding without
@@ -249,15 +270,17 @@ module _ (q : Queue) (sound : Sound q) (shape : HasShape q) (x : ℕ) (holds : H
   free-entry : IsSet (entry-at q) x (triple 0 0 0) (entry-at out)
   unfolding out
   free-entry =
-      entry-set-at q out x (triple 0 0 0) (is-set (q .ids) x 0 (omega (arith, shape .ids, holds .0))) (is-set (q .keys) x 0 (omega (arith, shape .keys, holds .0)))
-      (is-set (q .releases) x 0 (omega (arith, shape .releases, holds .0)))
+      entry-set-at q out x (triple 0 0 0) (is-set (q .ids) x 0 (omega (arith, shape .ids))) (is-set (q .keys) x 0 (omega (arith, shape .keys)))
+      (is-set (q .releases) x 0 (omega (arith, shape .releases)))
 
   free-key : IsSet (key-at q) x 0 (key-at out)
   unfolding out
   free-key = is-set (q .keys) x 0 (omega (arith, shape .keys, holds .0))
 
   freed-rank : IsSet (rank-at q) x 0 (rank-at out)
-  freed-rank = record { at = rank-set-at q out x (triple 0 0 0) free-entry .at ∙ rank-none 0 0 refl; elsewhere = rank-set-at q out x (triple 0 0 0) free-entry .elsewhere }
+  freed-rank =
+      let set-rank = rank-set-at q out x (triple 0 0 0) free-entry in
+      record { at = set-rank .at ∙ rank-none 0 0 refl; elsewhere = set-rank .elsewhere }
 
   pub taken-entries : entries (taken-out q x) ≡ without (id-at q x) (entries q)
   unfolding entries out
@@ -266,8 +289,8 @@ module _ (q : Queue) (sound : Sound q) (shape : HasShape q) (x : ℕ) (holds : H
   -- ranks rise, so neither neighbour is x itself
   next-apart : next-at q x ≡ x → ⊥
   next-apart e =
-      lt-irrefl (rank-at q x)
-      (subst (λ (z : ℕ). rank-at q x < z) (ap (high (rank-at q)) e ∙ high-place (rank-at q) x (holds .0)) (rw (low-place (rank-at q) x (holds .0)) at (there .in-order)))
+      let rises = rw (low-place (rank-at q) x (holds .0)) at (there .in-order) in
+      lt-irrefl (rank-at q x) (subst (λ (z : ℕ). rank-at q x < z) (ap (high (rank-at q)) e ∙ high-place (rank-at q) x (holds .0)) rises)
 
   prev-apart : prev-at q x ≡ x → ⊥
   prev-apart e = next-apart (sym (ap (next-at q) e) ∙ there .prev-returns)
@@ -275,6 +298,11 @@ module _ (q : Queue) (sound : Sound q) (shape : HasShape q) (x : ℕ) (holds : H
   pub taken-sound : Sound (taken-out q x)
   unfolding out
   taken-sound =
+      let p = prev-at q x in
+      let n = next-at q x in
+      let p-below = node-below (rank-at q) p (there .prev-is-node) in
+      let n-below = node-below (rank-at q) n (there .next-is-node) in
+      let ranked = rank-holds (release-at q x) (id-at q x) (holds .1) in
       made-sound out
       (λ i held.
       let other : i ≡ x → ⊥ = λ e. lt-irrefl 0 (omega (arith, subst (λ (j : ℕ). 1 ≤ id-at out j) e (held .1), ap (λ (a : Entry). a .id) (free-entry .at))) in
@@ -282,10 +310,9 @@ module _ (q : Queue) (sound : Sound q) (shape : HasShape q) (x : ℕ) (holds : H
       rw old (sound .ids-in-range i (held .0, rw old at (held .1))))
       (taken-once (entry-at q) (entry-at out) x (triple 0 0 0) (holds .0) free-entry refl (holds .1) (sound-once q sound))
       (rw taken-entries (fewer-in-bounds (entries q) (without (id-at q x) (entries q)) (in-without (id-at q x) (entries q)) (sound-in-bounds q sound)))
-      (taken-linked (rank-at q) (rank-at out) (key-at q) (key-at out) (next-at q) (next-at out) (prev-at q) (prev-at out) x 0 (rank-links q sound) freed-rank free-key (holds .0) (rank-holds (release-at q x) (id-at q x) (holds .1))
-      (getD-set-other (set (q .next) (prev-at q x) (next-at q x)) x (prev-at q x) 0 0 prev-apart
-      ∙ getD-set-same (q .next) (prev-at q x) (next-at q x) 0 (omega (arith, shape .next, node-below (rank-at q) (prev-at q x) (there .prev-is-node))))
-      (λ y not-p not-here. getD-set-other (set (q .next) (prev-at q x) (next-at q x)) x y 0 0 not-here ∙ getD-set-other (q .next) (prev-at q x) y (next-at q x) 0 not-p)
-      (getD-set-other (set (q .prev) (next-at q x) (prev-at q x)) x (next-at q x) 0 0 next-apart
-      ∙ getD-set-same (q .prev) (next-at q x) (prev-at q x) 0 (omega (arith, shape .prev, node-below (rank-at q) (next-at q x) (there .next-is-node))))
-      (λ y not-n not-here. getD-set-other (set (q .prev) (next-at q x) (prev-at q x)) x y 0 0 not-here ∙ getD-set-other (q .prev) (next-at q x) y (prev-at q x) 0 not-n))
+      (taken-linked (rank-at q) (rank-at out) (key-at q) (key-at out) (next-at q) (next-at out) (prev-at q) (prev-at out) x 0
+      (rank-links q sound) freed-rank free-key (holds .0) ranked
+      (getD-set-other (set (q .next) p n) x p 0 0 prev-apart ∙ getD-set-same (q .next) p n 0 (omega (arith, shape .next)))
+      (λ y not-p not-here. getD-set-other (set (q .next) p n) x y 0 0 not-here ∙ getD-set-other (q .next) p y n 0 not-p)
+      (getD-set-other (set (q .prev) n p) x n 0 0 next-apart ∙ getD-set-same (q .prev) n p 0 (omega (arith, shape .prev)))
+      (λ y not-n not-here. getD-set-other (set (q .prev) n p) x y 0 0 not-here ∙ getD-set-other (q .prev) n y p 0 not-n))

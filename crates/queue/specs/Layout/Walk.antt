@@ -8,7 +8,7 @@ use lib.Arith.{lt-of-le-ne}
 use Rattle.queue.specs.Layout.{key-at, next-at, prev-at, IsNode, bucket-of-key, bucket-of, Sound}
 use Rattle.queue.specs.Layout.Ranks.{rank-at, low, high, low-place, low-head, high-place, high-head, bucket-head}
 use Rattle.queue.specs.Layout.SoundFacts.{node-place, rank-links, sound-rank}
-use Rattle.queue.specs.Inner.{IsPosition, IsNewRank}
+use Rattle.queue.specs.Linking.{IsPosition, IsNewRank}
 use Rattle.queue.specs.declared.Queue.{Queue}
 
 pub head-below : (key : ℕ) → 64 + bucket-of-key key < 544
@@ -40,11 +40,13 @@ module _ (q : Queue) (sound : Sound q) where
       (step key rank n (reached .node) (reached .bucket) (omega (arith, low-place (rank-at q) n inside, lt-of-le-ne no-more (new .unused n inside))))
 
   -- ranks rise along the walk
-  pub walk-falls : (n m : ℕ) → IsNode (rank-at q) n → n < 64 → m ≡ next-at q n → 65_536_000_032_768 - high (rank-at q) m < 65_536_000_032_768 - high (rank-at q) n
+  pub walk-falls : (n m : ℕ) → IsNode (rank-at q) n → n < 64 → m ≡ next-at q n
+      → 65_536_000_032_768 - high (rank-at q) m < 65_536_000_032_768 - high (rank-at q) n
   walk-falls n m node inside e =
       let here = node-place q n node inside in
       let l = rank-links q sound n node in
-      let up : high (rank-at q) n < high (rank-at q) m = subst⁻¹ (λ (x : ℕ). high (rank-at q) n < high (rank-at q) x) e (omega (arith, l .in-order, low-place (rank-at q) n inside, high-place (rank-at q) n inside)) in
+      let up : high (rank-at q) n < high (rank-at q) m = subst⁻¹ (λ (x : ℕ). high (rank-at q) n < high (rank-at q) x) e
+      (omega (arith, l .in-order, low-place (rank-at q) n inside, high-place (rank-at q) n inside)) in
       omega (arith, high-place (rank-at q) n inside, sound-rank q sound n here)
 
   -- the walk may stop at a larger rank, and at the head

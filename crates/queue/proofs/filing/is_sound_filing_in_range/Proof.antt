@@ -9,16 +9,19 @@ places-file-in-range-requires c κs = search needs
 
 returns : tie.Need-returns
 returns c =
-    let given = c .before .before .before .before .before .before .before .before .before .args in
-    filing-refused (given .t1) (given .t2) (given .t3) (given .t4) (given .count) (c .before .places-file-in-range .ensures) (c .if1 .taken)
+    let a = c .before .before .before .before .before .before .before .before .before .args in
+    filing-refused (a .t1) (a .t2) (a .t3) (a .t4) (a .count) (c .before .places-file-in-range .ensures) (c .if1 .taken)
 
 all-linked-requires : tie.Need-all-linked-requires
 all-linked-requires c κs = search needs
 
 returns-2 : tie.Need-returns-2
 returns-2 c =
-    let given = c .before .before .before .before .before .before .before .before .before .before .before .before .before .before .before .before .args in
-    filing-last (given .t1) (given .t2) (given .t3) (given .t4) (given .count) (c .before .before .before .before .before .before .before .before .before .before .before .before .before .before .before .before .pre) (c .before .before .before .before .before .before .before .before .places-file-in-range .ensures) (c .before .before .before .before .before .before .before .if1 .left) (c .all-linked .ensures)
+    let tested = c .before .before .before .before .before .before .before in
+    let files = tested .before .places-file-in-range .ensures in
+    let start = tested .before .before .before .before .before .before .before .before .before in
+    let a = start .args in
+    filing-last (a .t1) (a .t2) (a .t3) (a .t4) (a .count) (start .pre) files (tested .if1 .left) (c .all-linked .ensures)
 
 pub is-sound-filing-in-range-spec : {M : Type 1} → statement M
 is-sound-filing-in-range-spec =

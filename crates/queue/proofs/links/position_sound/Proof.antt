@@ -1,4 +1,4 @@
--- `queue::links::position_sound` meets its contract: the node reached has only smaller ids before it, and ids rise towards 32,768.
+-- `queue::links::position_sound` meets its contract: the node reached has only smaller ranks before it, and ranks rise along a bucket.
 use mathlib.Core.Path.{ap, subst, _∙_}
 use Prim.Native.Nat.{ℕ, _-_, _<_, _≤_}
 use borrow.Author.Needs.{needs}
@@ -21,7 +21,12 @@ node-at-requires : tie.Need-node-at-requires Inv-loop μ-loop
 node-at-requires c κs = rw (c .head-of .ensures) (head-below (c .before .args .key))
 
 loop-holds : tie.Need-loop-holds Inv-loop μ-loop
-loop-holds c = reached-first _ (c .before .before .pre .0) (c .before .before .args .key) (c .before .before .args .rank) (c .node-at .result) (c .before .before .pre .1 .some) (c .node-at .ensures ∙ ap (next-at (queue-of (c .before .before .args .ids .now) (c .before .before .args .keys .now) (c .before .before .args .releases .now) (c .before .before .args .next .now) (c .before .before .args .prev .now))) (c .before .head-of .ensures))
+loop-holds c =
+    let start = c .before .before in
+    let a = start .args in
+    let q = queue-of (a .ids .now) (a .keys .now) (a .releases .now) (a .next .now) (a .prev .now) in
+    reached-first _ (start .pre .0) (a .key) (a .rank) (c .node-at .result) (start .pre .1 .some)
+    (c .node-at .ensures ∙ ap (next-at q) (c .before .head-of .ensures))
 
 mul-rank-of : tie.Need-mul-rank-of Inv-loop μ-loop
 mul-rank-of c = search needs
@@ -39,19 +44,39 @@ rank-of-requires : tie.Need-rank-of-requires Inv-loop μ-loop
 rank-of-requires c κs = search needs
 
 returns : tie.Need-returns Inv-loop μ-loop
-returns c = stop-at-place _ (c .before .before .before .before .before .before .before .before .pre .0) (c .before .before .before .before .before .before .before .before .args .key) (c .before .before .before .before .before .before .before .before .args .rank) (c .before .before .before .before .before .loop .n) (c .before .before .before .before .before .loop .inv) (c .before .before .before .before .loop-test .taken) (subst (λ (x : ℕ). c .before .before .before .before .before .before .before .before .args .rank < x) (c .before .rank-of .ensures) (c .if1 .taken))
+returns c =
+    let inside = c .before .before .before .before in
+    let loop = inside .before .loop in
+    let start = inside .before .before .before .before in
+    let a = start .args in
+    let above = subst (λ (x : ℕ). a .rank < x) (c .before .rank-of .ensures) (c .if1 .taken) in
+    stop-at-place _ (start .pre .0) (a .key) (a .rank) (loop .n) (loop .inv) (inside .loop-test .taken) above
 
 node-at-requires-2 : tie.Need-node-at-requires-2 Inv-loop μ-loop
 node-at-requires-2 c κs = search needs
 
 loop-less : tie.Need-loop-less Inv-loop μ-loop
-loop-less c = walk-falls _ (c .before .before .before .before .before .before .before .before .before .pre .0) (c .before .before .before .before .before .before .loop .n) (c .node-at2 .result) (c .before .before .before .before .before .before .loop .inv .node) (c .before .before .before .before .before .loop-test .taken) (c .node-at2 .ensures)
+loop-less c =
+    let inside = c .before .before .before .before .before in
+    let loop = inside .before .loop in
+    let start = inside .before .before .before .before in
+    walk-falls _ (start .pre .0) (loop .n) (c .node-at2 .result) (loop .inv .node) (inside .loop-test .taken) (c .node-at2 .ensures)
 
 loop-again : tie.Need-loop-again Inv-loop μ-loop
-loop-again c = reached-next _ (c .before .before .before .before .before .before .before .before .before .pre .0) (c .before .before .before .before .before .before .before .before .before .args .key) (c .before .before .before .before .before .before .before .before .before .args .rank) (c .before .before .before .before .before .before .loop .n) (c .node-at2 .result) (c .before .before .before .before .before .before .before .before .before .pre .1) (c .before .before .before .before .before .before .loop .inv) (c .before .before .before .before .before .loop-test .taken) (subst (λ (x : ℕ). x ≤ c .before .before .before .before .before .before .before .before .before .args .rank) (c .before .before .rank-of .ensures) (c .before .if1 .left)) (c .node-at2 .ensures)
+loop-again c =
+    let inside = c .before .before .before .before .before in
+    let loop = inside .before .loop in
+    let start = inside .before .before .before .before in
+    let a = start .args in
+    let no-more = subst (λ (x : ℕ). x ≤ a .rank) (c .before .before .rank-of .ensures) (c .before .if1 .left) in
+    reached-next _ (start .pre .0) (a .key) (a .rank) (loop .n) (c .node-at2 .result) (start .pre .1) (loop .inv) (inside .loop-test .taken) no-more
+    (c .node-at2 .ensures)
 
 returns-2 : tie.Need-returns-2 Inv-loop μ-loop
-returns-2 c = stop-at-head _ (c .before .before .before .before .pre .0) (c .before .before .before .before .args .key) (c .before .before .before .before .args .rank) (c .before .loop .n) (c .before .before .before .before .pre .1 .small) (c .before .loop .inv) (c .loop-test .left)
+returns-2 c =
+    let start = c .before .before .before .before in
+    let loop = c .before .loop in
+    stop-at-head _ (start .pre .0) (start .args .key) (start .args .rank) (loop .n) (start .pre .1 .small) (loop .inv) (c .loop-test .left)
 
 pub position-sound-spec : {M : Type 1} → statement M
 position-sound-spec =

@@ -7,7 +7,7 @@ use native.Mathlib.Omega.{arith}
 use lib.ListN.{getD}
 use borrow.Author.Needs.{needs}
 use Rattle.queue.specs.Layout.{Sound}
-use Rattle.queue.specs.Inner.{StandsAt, point-at}
+use Rattle.queue.specs.Linking.{StandsAt, point-at}
 use Rattle.queue.specs.Layout.Buckets.{AtBucket}
 use Rattle.queue.specs.Layout.Following.{next-follows, after-own, one-bucket-on, first-follows, come-round, none-follows}
 use Rattle.queue.specs.declared.Queue.{Queue}
@@ -33,7 +33,10 @@ node-at-requires : tie.Need-node-at-requires Inv-loop μ-loop
 node-at-requires c κs = c .pre
 
 returns : tie.Need-returns Inv-loop μ-loop
-returns c = λ q is-keys is-next sound stands. next-follows q sound (c .before .before .args .key) (c .before .before .args .n) stands (c .before .node-at .result) (there (c .before .before .args .n) (c .before .node-at .result) is-next (c .before .node-at .ensures)) (c .if1 .taken)
+returns c q is-keys is-next sound stands =
+    let a = c .before .before .args in
+    let on = c .before .node-at in
+    next-follows q sound (a .key) (a .n) stands (on .result) (there (a .n) (on .result) is-next (on .ensures)) (c .if1 .taken)
 
 bucket-of-key-requires : tie.Need-bucket-of-key-requires Inv-loop μ-loop
 bucket-of-key-requires c κs = tt
@@ -43,12 +46,16 @@ bucket-after-requires c κs = rw (c .bucket-of-key .ensures) (mod-lt (c .before 
 
 loop-holds : tie.Need-loop-holds Inv-loop μ-loop
 loop-holds c =
+    let own = c .before .bucket-of-key in
+    let left = c .before .before in
+    let on = left .before .node-at in
+    let a = left .before .before .args in
     record {
-      below = rw (c .bucket-after .ensures) (mod-lt (c .before .bucket-of-key .result + 1) {m = 480} (omega arith));
+      below = rw (c .bucket-after .ensures) (mod-lt (own .result + 1) {m = 480} (omega arith));
       few = omega arith;
       at = λ q is-keys is-next sound stands.
-          after-own q sound (c .before .before .before .before .args .key) (c .before .before .before .before .args .n) stands (c .before .before .before .node-at .result) (c .bucket-after .result) (c .before .bucket-of-key .result) (there (c .before .before .before .before .args .n) (c .before .before .before .node-at .result) is-next (c .before .before .before .node-at .ensures)) (c .before .before .if1 .left)
-          (c .before .bucket-of-key .ensures) (c .bucket-after .ensures);
+          after-own q sound (a .key) (a .n) stands (on .result) (c .bucket-after .result) (own .result)
+          (there (a .n) (on .result) is-next (on .ensures)) (left .if1 .left) (own .ensures) (c .bucket-after .ensures);
     }
 
 add-node-at : tie.Need-add-node-at Inv-loop μ-loop
@@ -64,14 +71,24 @@ element-copy-out-if3 : tie.Need-element-copy-out-if3 Inv-loop μ-loop
 element-copy-out-if3 c = search needs
 
 returns-2 : tie.Need-returns-2 Inv-loop μ-loop
-returns-2 c = λ q is-keys is-next sound stands.
-    first-follows q sound (c .before .before .before .before .before .before .before .before .before .before .args .key) (c .before .before .before .before .before .before .before .before .before .before .args .n) stands (c .before .before .before .before .before .loop .bucket) (c .before .before .before .before .before .loop .left) (c .before .before .before .before .before .loop .inv .at q is-keys is-next sound stands) (c .before .before .before .before .loop-test .taken) (c .before .before .before .node-at2 .result)
-    (there (64 + c .before .before .before .before .before .loop .bucket) (c .before .before .before .node-at2 .result) is-next (c .before .before .before .node-at2 .ensures)) (c .before .before .if2 .taken) (subst (λ (l : List ℕ). c .before .before .before .before .before .before .before .before .before .before .args .key < getD l (c .before .before .before .node-at2 .result) 0) (sym is-keys) (c .if3 .taken))
+returns-2 c q is-keys is-next sound stands =
+    let first = c .before .before .before .node-at2 in
+    let inside = c .before .before .before .before in
+    let loop = inside .before .loop in
+    let a = inside .before .before .before .before .before .before .args in
+    first-follows q sound (a .key) (a .n) stands (loop .bucket) (loop .left) (loop .inv .at q is-keys is-next sound stands) (inside .loop-test .taken)
+    (first .result) (there (64 + loop .bucket) (first .result) is-next (first .ensures)) (c .before .before .if2 .taken)
+    (subst (λ (l : List ℕ). a .key < getD l (first .result) 0) (sym is-keys) (c .if3 .taken))
 
 returns-3 : tie.Need-returns-3 Inv-loop μ-loop
-returns-3 c = λ q is-keys is-next sound stands.
-    come-round q sound (c .before .before .before .before .before .before .before .before .before .before .args .key) (c .before .before .before .before .before .before .before .before .before .before .args .n) stands (c .before .before .before .before .before .loop .bucket) (c .before .before .before .before .before .loop .left) (c .before .before .before .before .before .loop .inv .at q is-keys is-next sound stands) (c .before .before .before .before .loop-test .taken) (c .before .before .before .node-at2 .result)
-    (there (64 + c .before .before .before .before .before .loop .bucket) (c .before .before .before .node-at2 .result) is-next (c .before .before .before .node-at2 .ensures)) (c .before .before .before .before .before .loop .inv .few) (c .before .before .if2 .taken) (subst (λ (l : List ℕ). getD l (c .before .before .before .node-at2 .result) 0 ≤ c .before .before .before .before .before .before .before .before .before .before .args .key) (sym is-keys) (c .if3 .left))
+returns-3 c q is-keys is-next sound stands =
+    let first = c .before .before .before .node-at2 in
+    let inside = c .before .before .before .before in
+    let loop = inside .before .loop in
+    let a = inside .before .before .before .before .before .before .args in
+    come-round q sound (a .key) (a .n) stands (loop .bucket) (loop .left) (loop .inv .at q is-keys is-next sound stands) (inside .loop-test .taken)
+    (first .result) (there (64 + loop .bucket) (first .result) is-next (first .ensures)) (loop .inv .few) (c .before .before .if2 .taken)
+    (subst (λ (l : List ℕ). getD l (first .result) 0 ≤ a .key) (sym is-keys) (c .if3 .left))
 
 bucket-after-requires-2 : tie.Need-bucket-after-requires-2 Inv-loop μ-loop
 bucket-after-requires-2 c κs = c .before .before .before .loop .inv .below
@@ -84,16 +101,24 @@ loop-less c = omega arith
 
 loop-again : tie.Need-loop-again Inv-loop μ-loop
 loop-again c =
+    let first = c .before .before .node-at2 in
+    let inside = c .before .before .before in
+    let loop = inside .before .loop in
+    let a = inside .before .before .before .before .before .before .args in
     record {
-      below = rw (c .bucket-after2 .ensures) (mod-lt (c .before .before .before .before .loop .bucket + 1) {m = 480} (omega arith));
-      few = omega (arith, c .before .before .before .before .loop .inv .few);
+      below = rw (c .bucket-after2 .ensures) (mod-lt (loop .bucket + 1) {m = 480} (omega arith));
+      few = omega (arith, loop .inv .few);
       at = λ q is-keys is-next sound stands.
-          one-bucket-on q sound (c .before .before .before .before .before .before .before .before .before .args .key) (c .before .before .before .before .before .before .before .before .before .args .n) stands (c .before .before .before .before .loop .bucket) (c .before .before .before .before .loop .left) (c .before .before .before .before .loop .inv .at q is-keys is-next sound stands) (c .before .before .before .loop-test .taken) (c .before .before .node-at2 .result)
-          (there (64 + c .before .before .before .before .loop .bucket) (c .before .before .node-at2 .result) is-next (c .before .before .node-at2 .ensures)) (c .bucket-after2 .result) _ (c .before .if2 .left) (c .bucket-after2 .ensures) refl;
+          one-bucket-on q sound (a .key) (a .n) stands (loop .bucket) (loop .left) (loop .inv .at q is-keys is-next sound stands)
+          (inside .loop-test .taken) (first .result) (there (64 + loop .bucket) (first .result) is-next (first .ensures)) (c .bucket-after2 .result) _
+          (c .before .if2 .left) (c .bucket-after2 .ensures) refl;
     }
 
 returns-4 : tie.Need-returns-4 Inv-loop μ-loop
-returns-4 c = λ q is-keys is-next sound stands. none-follows q sound (c .before .before .before .before .before .before .args .key) (c .before .before .before .before .before .before .args .n) stands (c .before .loop .bucket) (c .before .loop .left) (c .before .loop .inv .at q is-keys is-next sound stands) (c .loop-test .left)
+returns-4 c q is-keys is-next sound stands =
+    let loop = c .before .loop in
+    let a = c .before .before .before .before .before .before .args in
+    none-follows q sound (a .key) (a .n) stands (loop .bucket) (loop .left) (loop .inv .at q is-keys is-next sound stands) (c .loop-test .left)
 
 pub following-in-range-spec : {M : Type 1} → statement M
 following-in-range-spec =

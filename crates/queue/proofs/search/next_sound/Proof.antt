@@ -1,6 +1,7 @@
 -- `queue::search::next_sound` meets its contract: the place found holds the head of the entries after the point.
 use mathlib.Core.Path.{sym, ap, _∙_}
 use Prim.Native.Nat.{ℕ}
+use Rattle.places.specs.Order.{triple}
 use Rattle.queue.specs.Layout.{key-at, release-at}
 use Rattle.queue.specs.Layout.Decide.{decide-sound}
 use Rattle.queue.specs.declared.Found.{Found}
@@ -13,7 +14,12 @@ first-after-sound-requires : tie.Need-first-after-sound-requires
 first-after-sound-requires c κs = search needs
 
 returns : tie.Need-returns
-returns c = sym (after-none (c .before .before .args .t1) (c .before .before .pre) (record { key = c .before .before .args .key; release = c .before .before .args .release; id = c .before .before .args .id }) (c .before .first-after-sound .result) (c .before .first-after-sound .ensures) (decide-sound (c .before .before .args .t1)) (c .if1 .taken))
+returns c =
+    let first = c .before .first-after-sound in
+    let start = c .before .before in
+    let a = start .args in
+    let point = triple (a .key) (a .release) (a .id) in
+    sym (after-none (a .t1) (start .pre) point (first .result) (first .ensures) (decide-sound (a .t1)) (c .if1 .taken))
 
 mul-there-key : tie.Need-mul-there-key
 mul-there-key c = search needs
@@ -38,8 +44,14 @@ wide-requires c κs = search needs
 
 returns-2 : tie.Need-returns-2
 returns-2 c =
-    ap {B = Found} (λ (i : ℕ). record { answer = 0; key = key-at (c .before .before .before .before .before .before .args .t1) (c .before .before .before .before .before .first-after-sound .result); release = release-at (c .before .before .before .before .before .before .args .t1) (c .before .before .before .before .before .first-after-sound .result); id = i }) (c .wide .ensures)
-    ∙ sym (after-found (c .before .before .before .before .before .before .args .t1) (c .before .before .before .before .before .before .pre) (record { key = c .before .before .before .before .before .before .args .key; release = c .before .before .before .before .before .before .args .release; id = c .before .before .before .before .before .before .args .id }) (c .before .before .before .before .before .first-after-sound .result) (c .before .before .before .before .before .first-after-sound .ensures) (decide-sound (c .before .before .before .before .before .before .args .t1)) (found-inside (c .before .before .before .before .before .first-after-sound .ensures) (c .before .before .before .before .if1 .left)))
+    let tested = c .before .before .before .before in
+    let first = tested .before .first-after-sound in
+    let x = first .result in
+    let start = tested .before .before in
+    let a = start .args in
+    let point = triple (a .key) (a .release) (a .id) in
+    ap {B = Found} (λ (i : ℕ). record { answer = 0; key = key-at (a .t1) x; release = release-at (a .t1) x; id = i }) (c .wide .ensures)
+    ∙ sym (after-found (a .t1) (start .pre) point x (first .ensures) (decide-sound (a .t1)) (found-inside (first .ensures) (tested .if1 .left)))
 
 pub next-sound-spec : {M : Type 1} → statement M
 next-sound-spec =

@@ -1,10 +1,11 @@
 -- `queue::search::search_sound` meets its contract: no entry after the point has a key of a bucket passed, nor lies before the node reached.
-use mathlib.Core.Path.{refl, subst, subst⁻¹}
-use Prim.Native.Nat.{ℕ, _-_}
+use mathlib.Core.Path.{refl, subst}
+use Prim.Native.Nat.{ℕ, _-_, _<_}
 use native.Mathlib.Omega.{arith}
 use borrow.Author.Needs.{needs}
-use Rattle.queue.specs.Order.{Before, triple}
-use Rattle.queue.specs.Layout.{key-at, release-at}
+use Rattle.basics.specs.Decides.{Decides}
+use Rattle.places.specs.Order.{Entry, Before, triple}
+use Rattle.queue.specs.Layout.{key-at, release-at, entry-at}
 use Rattle.queue.specs.Layout.Ranks.{rank-at, high}
 use Rattle.queue.specs.Layout.Walk.{walk-falls}
 use Rattle.queue.specs.Layout.Buckets.{AtBucket, AtNode, at-first-bucket, bucket-below, at-first-node, at-next-node, at-next-bucket, left-at-node, left-with-none}
@@ -23,20 +24,36 @@ Inv-search from key release id q found₀ bucket₀ left₀ found bucket left = 
 abbrev μ-search : tie.MeasureT-search
 μ-search from key release id q found₀ bucket₀ left₀ found bucket left = left
 
+-- the point of the call
+abbrev point : tie.Start Inv-loop μ-loop Inv-search μ-search → Entry
+point c = triple (c .args .key) (c .args .release) (c .args .id)
+
 bucket-of-key-requires : tie.Need-bucket-of-key-requires Inv-loop μ-loop Inv-search μ-search
 bucket-of-key-requires c κs = tt
 
 search-holds : tie.Need-search-holds Inv-loop μ-loop Inv-search μ-search
-search-holds c = at-first-bucket (c .before .args .t1) (c .before .pre .0) (c .before .args .from) (record { key = c .before .args .key; release = c .before .args .release; id = c .before .args .id }) (c .before .pre .1) _ (c .bucket-of-key .ensures)
+search-holds c =
+    let start = c .before in
+    at-first-bucket (start .args .t1) (start .pre .0) (start .args .from) (point start) (start .pre .1) _ (c .bucket-of-key .ensures)
+
+-- the bucket reached is one of the 480
+below : (c : tie.At-search Inv-loop μ-loop Inv-search μ-search) → c .search .bucket < 480
+below c =
+    let start = c .before .before in
+    bucket-below (start .args .t1) (start .pre .0) (start .args .from) (point start) (start .pre .1) _ _ _ (c .search .inv)
 
 add-node-at : tie.Need-add-node-at Inv-loop μ-loop Inv-search μ-search
-add-node-at c = omega (arith, bucket-below (c .before .before .before .before .before .args .t1) (c .before .before .before .before .before .pre .0) (c .before .before .before .before .before .args .from) (record { key = c .before .before .before .before .before .args .key; release = c .before .before .before .before .before .args .release; id = c .before .before .before .before .before .args .id }) (c .before .before .before .before .before .pre .1) _ _ _ (c .before .before .before .search .inv))
+add-node-at c = omega (arith, below (c .before .before .before))
 
 node-at-requires : tie.Need-node-at-requires Inv-loop μ-loop Inv-search μ-search
-node-at-requires c κs = omega (arith, bucket-below (c .before .before .before .before .before .args .t1) (c .before .before .before .before .before .pre .0) (c .before .before .before .before .before .args .from) (record { key = c .before .before .before .before .before .args .key; release = c .before .before .before .before .before .args .release; id = c .before .before .before .before .before .args .id }) (c .before .before .before .before .before .pre .1) _ _ _ (c .before .before .before .search .inv))
+node-at-requires c κs = omega (arith, below (c .before .before .before))
 
 loop-holds : tie.Need-loop-holds Inv-loop μ-loop Inv-search μ-search
-loop-holds c = at-first-node (c .before .before .before .before .before .before .args .t1) (c .before .before .before .before .before .before .pre .0) (c .before .before .before .before .before .before .args .from) (record { key = c .before .before .before .before .before .before .args .key; release = c .before .before .before .before .before .before .args .release; id = c .before .before .before .before .before .before .args .id }) (c .before .before .before .before .before .before .pre .1) _ (c .before .before .before .before .search .bucket) (c .node-at .result) (c .before .before .before .before .search .inv .unfound) (bucket-below (c .before .before .before .before .before .before .args .t1) (c .before .before .before .before .before .before .pre .0) (c .before .before .before .before .before .before .args .from) (record { key = c .before .before .before .before .before .before .args .key; release = c .before .before .before .before .before .before .args .release; id = c .before .before .before .before .before .before .args .id }) (c .before .before .before .before .before .before .pre .1) _ _ _ (c .before .before .before .before .search .inv)) (c .node-at .ensures)
+loop-holds c =
+    let at = c .before .before .before .before in
+    let start = at .before .before in
+    at-first-node (start .args .t1) (start .pre .0) (start .args .from) (point start) (start .pre .1) _ (at .search .bucket) (c .node-at .result)
+    (at .search .inv .unfound) (below at) (c .node-at .ensures)
 
 mul-there-key : tie.Need-mul-there-key Inv-loop μ-loop Inv-search μ-search
 mul-there-key c = search needs
@@ -67,15 +84,37 @@ node-at-requires-2 : tie.Need-node-at-requires-2 Inv-loop μ-loop Inv-search μ-
 node-at-requires-2 c κs = search needs
 
 loop-less : tie.Need-loop-less Inv-loop μ-loop Inv-search μ-search
-loop-less c = walk-falls (c .before .before .before .before .before .before .before .before .before .before .before .before .before .before .before .before .before .args .t1) (c .before .before .before .before .before .before .before .before .before .before .before .before .before .before .before .before .before .pre .0) (c .before .before .before .before .before .before .before .before .before .before .loop .n) (c .node-at2 .result) (c .before .before .before .before .before .before .before .before .before .before .loop .inv .node) (c .before .before .before .before .before .before .before .before .before .loop-test .taken) (c .node-at2 .ensures)
+loop-less c =
+    let inside = c .before .before .before .before .before .before .before .before .before in
+    let loop = inside .before .loop in
+    let start = inside .before .before .before .before .before .before .before .before in
+    walk-falls (start .args .t1) (start .pre .0) (loop .n) (c .node-at2 .result) (loop .inv .node) (inside .loop-test .taken) (c .node-at2 .ensures)
+
+-- the test is of the entry at the node reached
+tests-entry :
+    (c : tie.After-is-after Inv-loop μ-loop Inv-search μ-search)
+    → let at = c .before .before .before .before .before .before in
+    let start = at .before .before .before .before .before .before .before in
+    Decides (c .is-after .result) (Before (point start) (entry-at (start .args .t1) (at .loop .n)))
+tests-entry c =
+    let at = c .before .before .before .before .before .before in
+    let start = at .before .before .before .before .before .before .before in
+    let q = start .args .t1 in
+    let n = at .loop .n in
+    subst (λ (i : ℕ). Decides (c .is-after .result) (Before (point start) (triple (key-at q n) (release-at q n) i))) (c .before .wide .ensures)
+    (c .is-after .ensures)
 
 loop-again : tie.Need-loop-again Inv-loop μ-loop Inv-search μ-search
 loop-again c =
-    at-next-node (c .before .before .before .before .before .before .before .before .before .before .before .before .before .before .before .before .before .args .t1) (c .before .before .before .before .before .before .before .before .before .before .before .before .before .before .before .before .before .pre .0) (c .before .before .before .before .before .before .before .before .before .before .before .before .before .before .before .before .before .args .from) (record { key = c .before .before .before .before .before .before .before .before .before .before .before .before .before .before .before .before .before .args .key; release = c .before .before .before .before .before .before .before .before .before .before .before .before .before .before .before .before .before .args .release; id = c .before .before .before .before .before .before .before .before .before .before .before .before .before .before .before .before .before .args .id }) (c .before .before .before .before .before .before .before .before .before .before .before .before .before .before .before .before .before .pre .1) _ _ (c .before .before .before .before .before .before .before .before .before .before .loop .n) (c .node-at2 .result) (c .before .before .before .before .before .before .before .before .before .before .loop .inv) (c .before .before .before .before .before .before .before .before .before .loop-test .taken)
-    (λ after. c .before .before .before .before .is-after .ensures .if-false (c .before .before .before .if1 .left) (subst⁻¹ (λ (i : ℕ). Before (record { key = c .before .before .before .before .before .before .before .before .before .before .before .before .before .before .before .before .before .args .key; release = c .before .before .before .before .before .before .before .before .before .before .before .before .before .before .before .before .before .args .release; id = c .before .before .before .before .before .before .before .before .before .before .before .before .before .before .before .before .before .args .id }) (record { key = key-at (c .before .before .before .before .before .before .before .before .before .before .before .before .before .before .before .before .before .args .t1) (c .before .before .before .before .before .before .before .before .before .before .loop .n); release = release-at (c .before .before .before .before .before .before .before .before .before .before .before .before .before .before .before .before .before .args .t1) (c .before .before .before .before .before .before .before .before .before .before .loop .n); id = i })) (c .before .before .before .before .before .wide .ensures) after)) (c .node-at2 .ensures)
+    let tested = c .before .before .before in
+    let inside = tested .before .before .before .before .before .before in
+    let loop = inside .before .loop in
+    let start = inside .before .before .before .before .before .before .before .before in
+    at-next-node (start .args .t1) (start .pre .0) (start .args .from) (point start) (start .pre .1) _ _ (loop .n) (c .node-at2 .result)
+    (loop .inv) (inside .loop-test .taken) (tests-entry (tested .before) .if-false (tested .if1 .left)) (c .node-at2 .ensures)
 
 bucket-after-requires : tie.Need-bucket-after-requires Inv-loop μ-loop Inv-search μ-search
-bucket-after-requires c κs = bucket-below (c .before .before .before .before .before .before .before .before .args .t1) (c .before .before .before .before .before .before .before .before .pre .0) (c .before .before .before .before .before .before .before .before .args .from) (record { key = c .before .before .before .before .before .before .before .before .args .key; release = c .before .before .before .before .before .before .before .before .args .release; id = c .before .before .before .before .before .before .before .before .args .id }) (c .before .before .before .before .before .before .before .before .pre .1) _ _ _ (c .before .before .before .before .before .before .search .inv)
+bucket-after-requires c κs = below (c .before .before .before .before .before .before)
 
 sub-left : tie.Need-sub-left Inv-loop μ-loop Inv-search μ-search
 sub-left c = search needs
@@ -84,15 +123,29 @@ search-less : tie.Need-search-less Inv-loop μ-loop Inv-search μ-search
 search-less c = omega arith
 
 search-again : tie.Need-search-again Inv-loop μ-loop Inv-search μ-search
-search-again c = at-next-bucket (c .before .before .before .before .before .before .before .before .before .args .t1) (c .before .before .before .before .before .before .before .before .before .pre .0) (c .before .before .before .before .before .before .before .before .before .args .from) (record { key = c .before .before .before .before .before .before .before .before .before .args .key; release = c .before .before .before .before .before .before .before .before .before .args .release; id = c .before .before .before .before .before .before .before .before .before .args .id }) (c .before .before .before .before .before .before .before .before .before .pre .1) _ _ (c .before .before .before .before .before .before .before .search .bucket) (c .before .before .before .before .before .before .before .search .left) (c .before .before .loop .n) (c .bucket-after .result) _ (c .before .before .before .before .before .before .before .search .inv) (c .before .before .loop .inv) (c .before .loop-test .left) (c .before .before .before .before .before .before .search-test .taken) (c .bucket-after .ensures) refl
+search-again c =
+    let loop = c .before .before .loop in
+    let inside = c .before .before .before .before .before .before in
+    let search = inside .before .search in
+    let start = inside .before .before .before in
+    at-next-bucket (start .args .t1) (start .pre .0) (start .args .from) (point start) (start .pre .1) _ _ (search .bucket) (search .left)
+    (loop .n) (c .bucket-after .result) _ (search .inv) (loop .inv) (c .before .loop-test .left) (inside .search-test .taken)
+    (c .bucket-after .ensures) refl
 
 returns : tie.Need-returns Inv-loop μ-loop Inv-search μ-search
-returns c = left-with-none (c .before .before .before .args .t1) (c .before .before .before .pre .0) (c .before .before .before .args .from) (record { key = c .before .before .before .args .key; release = c .before .before .before .args .release; id = c .before .before .before .args .id }) (c .before .before .before .pre .1) _ _ _ (c .before .search .inv) (c .search-test .left)
+returns c =
+    let start = c .before .before .before in
+    left-with-none (start .args .t1) (start .pre .0) (start .args .from) (point start) (start .pre .1) _ _ _ (c .before .search .inv)
+    (c .search-test .left)
 
 returns-2 : tie.Need-returns-2 Inv-loop μ-loop Inv-search μ-search
 returns-2 c =
-    left-at-node (c .before .before .before .before .before .before .before .before .before .before .before .before .before .before .args .t1) (c .before .before .before .before .before .before .before .before .before .before .before .before .before .before .pre .0) (c .before .before .before .before .before .before .before .before .before .before .before .before .before .before .args .from) (record { key = c .before .before .before .before .before .before .before .before .before .before .before .before .before .before .args .key; release = c .before .before .before .before .before .before .before .before .before .before .before .before .before .before .args .release; id = c .before .before .before .before .before .before .before .before .before .before .before .before .before .before .args .id }) (c .before .before .before .before .before .before .before .before .before .before .before .before .before .before .pre .1) _ _ (c .before .before .before .before .before .before .before .before .before .before .before .before .search .bucket) (c .before .before .before .before .before .before .before .before .before .before .before .before .search .left) (c .before .before .before .before .before .before .before .loop .n) (c .before .before .before .before .before .before .before .before .before .before .before .before .search .inv) (c .before .before .before .before .before .before .before .loop .inv) (c .before .before .before .before .before .before .loop-test .taken)
-    (subst (λ (i : ℕ). Before (record { key = c .before .before .before .before .before .before .before .before .before .before .before .before .before .before .args .key; release = c .before .before .before .before .before .before .before .before .before .before .before .before .before .before .args .release; id = c .before .before .before .before .before .before .before .before .before .before .before .before .before .before .args .id }) (record { key = key-at (c .before .before .before .before .before .before .before .before .before .before .before .before .before .before .args .t1) (c .before .before .before .before .before .before .before .loop .n); release = release-at (c .before .before .before .before .before .before .before .before .before .before .before .before .before .before .args .t1) (c .before .before .before .before .before .before .before .loop .n); id = i })) (c .before .before .wide .ensures) (c .before .is-after .ensures .if-true (c .if1 .taken)))
+    let inside = c .before .before .before .before .before .before in
+    let loop = inside .before .loop in
+    let at = inside .before .before .before .before .before .before in
+    let start = at .before .before in
+    left-at-node (start .args .t1) (start .pre .0) (start .args .from) (point start) (start .pre .1) _ _ (at .search .bucket) (at .search .left)
+    (loop .n) (at .search .inv) (loop .inv) (inside .loop-test .taken) (tests-entry (c .before) .if-true (c .if1 .taken))
 
 pub search-sound-spec : {M : Type 1} → statement M
 search-sound-spec =

@@ -1,5 +1,5 @@
 -- `queue::soundness::all_linked` meets its contract: places and heads are all the nodes.
-use Rattle.basics.specs.Decides.{decides-no, failed, passed, same-as}
+use Rattle.basics.specs.Facts.Decides.{decides-no, failed, passed, same-as}
 use Rattle.queue.specs.Layout.SoundnessFacts.{all-from, all-places, all-heads}
 use borrow.Author.Needs.{needs}
 use Rattle.queue.proofs.soundness.all_linked.Statement.{statement}

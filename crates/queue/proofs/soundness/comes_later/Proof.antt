@@ -49,7 +49,10 @@ is-after-requires : tie.Need-is-after-requires
 is-after-requires c κs = search needs
 
 returns : tie.Need-returns
-returns c = rw (c .before .before .before .before .before .before .before .wide .ensures, c .before .before .before .before .before .wide2 .ensures) at (c .is-after .ensures)
+returns c =
+    let second = c .before .before .before .before .before in
+    let first = second .before .before in
+    rw (first .wide .ensures, second .wide2 .ensures) at (c .is-after .ensures)
 
 pub comes-later-spec : {M : Type 1} → statement M
 comes-later-spec =

@@ -2,8 +2,11 @@
 use Prim.Native.Nat.{_≤_, _-_}
 use native.Mathlib.Nat.{lt-irrefl}
 use native.Mathlib.Omega.{arith}
-use Rattle.basics.specs.Decides.{decides-no, decides-yes, failed, passed}
-use Rattle.queue.specs.Layout.SoundnessFacts.{at, Between, HeadRight, between-more}
+use Rattle.basics.specs.Facts.Decides.{decides-no, decides-yes, failed, passed}
+use Rattle.basics.specs.Below.{Between}
+use Rattle.basics.specs.Facts.Below.{between-more}
+use Rattle.basics.specs.NewIds.{at}
+use Rattle.queue.specs.Layout.Soundness.{HeadRight}
 use Rattle.queue.proofs.soundness.heads_are_linked.Statement.{statement}
 use Rattle.queue.proofs.soundness.heads_are_linked.Tie as tie
 
@@ -20,7 +23,10 @@ head-is-right-requires : tie.Need-head-is-right-requires Inv-loop μ-loop
 head-is-right-requires c κs = (c .before .loop .inv .0, c .loop-test .taken)
 
 returns : tie.Need-returns Inv-loop μ-loop
-returns c = decides-no (λ all. failed (c .before .head-is-right .ensures) (c .if1 .taken) (all (c .before .before .before .loop .x) (c .before .before .before .loop .inv .0) (c .before .before .loop-test .taken)))
+returns c =
+    let inside = c .before .before in
+    let loop = inside .before .loop in
+    decides-no (λ all. failed (c .before .head-is-right .ensures) (c .if1 .taken) (all (loop .x) (loop .inv .0) (inside .loop-test .taken)))
 
 add-x : tie.Need-add-x Inv-loop μ-loop
 add-x c = omega (arith, c .before .before .loop-test .taken)
@@ -29,7 +35,9 @@ loop-less : tie.Need-loop-less Inv-loop μ-loop
 loop-less c = omega (arith, c .before .before .loop-test .taken)
 
 loop-again : tie.Need-loop-again Inv-loop μ-loop
-loop-again c = (omega (arith, c .before .before .before .loop .inv .0), between-more (c .before .before .before .loop .inv .1) (passed (c .before .head-is-right .ensures) (c .if1 .left)))
+loop-again c =
+    let loop = c .before .before .before .loop in
+    (omega (arith, loop .inv .0), between-more (loop .inv .1) (passed (c .before .head-is-right .ensures) (c .if1 .left)))
 
 returns-2 : tie.Need-returns-2 Inv-loop μ-loop
 returns-2 c = decides-yes (λ x low high. c .before .loop .inv .1 x low (omega (arith, high, c .loop-test .left)))

@@ -1,5 +1,6 @@
 -- `queue::soundness::is_node` meets its contract: below 64 a node is a place that holds an entry, from 64 on a head.
-use Rattle.queue.specs.Layout.SoundnessFacts.{at, place-node, head-node}
+use Rattle.basics.specs.NewIds.{at}
+use Rattle.queue.specs.Layout.SoundnessFacts.{place-node, head-node}
 use borrow.Author.Needs.{needs}
 use Rattle.queue.proofs.soundness.is_node.Statement.{statement}
 use Rattle.queue.proofs.soundness.is_node.Tie as tie

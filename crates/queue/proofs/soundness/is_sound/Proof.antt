@@ -1,5 +1,5 @@
 -- `queue::soundness::is_sound` meets its contract: a queue is sound exactly if its places are and its nodes are linked.
-use Rattle.basics.specs.Decides.{decides-no, failed, passed}
+use Rattle.basics.specs.Facts.Decides.{decides-no, failed, passed}
 use Rattle.queue.specs.Layout.SoundnessFacts.{sound-places, sound-last}
 use borrow.Author.Needs.{needs}
 use Rattle.queue.proofs.soundness.is_sound.Statement.{statement}

@@ -1,7 +1,7 @@
 -- `queue::soundness::next_of_place_is_right` meets its contract: the link decides, and where an entry follows, its order too.
 use native.Mathlib.Nat.{lt-irrefl}
 use native.Mathlib.Omega.{arith}
-use Rattle.basics.specs.Decides.{decides-no, decides-yes, same-as, failed, passed}
+use Rattle.basics.specs.Facts.Decides.{decides-no, decides-yes, same-as, failed, passed}
 use borrow.Author.Needs.{needs}
 use Rattle.queue.proofs.soundness.next_of_place_is_right.Statement.{statement}
 use Rattle.queue.proofs.soundness.next_of_place_is_right.Tie as tie
@@ -16,7 +16,9 @@ comes-later-requires : tie.Need-comes-later-requires
 comes-later-requires c κs = (c .before .before .before .pre, c .if2 .taken)
 
 returns-2 : tie.Need-returns-2
-returns-2 c = same-as (λ later. (passed (c .before .before .before .next-is-right .ensures) (c .before .before .if1 .left), λ _. later)) (λ w. w .1 (c .before .if2 .taken)) (c .comes-later .ensures)
+returns-2 c =
+    let right = passed (c .before .before .before .next-is-right .ensures) (c .before .before .if1 .left) in
+    same-as (λ later. (right, λ _. later)) (λ w. w .1 (c .before .if2 .taken)) (c .comes-later .ensures)
 
 returns-3 : tie.Need-returns-3
 returns-3 c = decides-yes (passed (c .before .before .next-is-right .ensures) (c .before .if1 .left), λ below. absurd (lt-irrefl 64 (omega (arith, below, c .if2 .left))))

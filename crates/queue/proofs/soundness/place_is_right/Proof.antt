@@ -1,7 +1,7 @@
 -- `queue::soundness::place_is_right` meets its contract: a free place needs nothing, and else the two links decide.
 use native.Mathlib.Nat.{lt-irrefl}
 use native.Mathlib.Omega.{arith}
-use Rattle.basics.specs.Decides.{decides-no, decides-yes, same-as, failed, passed}
+use Rattle.basics.specs.Facts.Decides.{decides-no, decides-yes, same-as, failed, passed}
 use Rattle.queue.specs.Layout.SoundnessFacts.{linked-from, linked-next, linked-prev}
 use borrow.Author.Needs.{needs}
 use Rattle.queue.proofs.soundness.place_is_right.Statement.{statement}
@@ -26,15 +26,23 @@ next-of-place-is-right-requires : tie.Need-next-of-place-is-right-requires
 next-of-place-is-right-requires c κs = search needs
 
 returns-2 : tie.Need-returns-2
-returns-2 c = decides-no (λ right. failed (c .before .next-of-place-is-right .ensures) (c .if2 .taken) (linked-next (c .before .before .before .node-at .ensures) (c .before .before .node-at2 .ensures) (c .before .before .before .before .before .before .pre) (right (c .before .before .before .before .if1 .left))))
+returns-2 c =
+    let next = c .before .before .before .node-at .ensures in
+    let prev = c .before .before .node-at2 .ensures in
+    let held = c .before .before .before .before in
+    let start = held .before .before in
+    decides-no (λ right. failed (c .before .next-of-place-is-right .ensures) (c .if2 .taken) (linked-next next prev (start .pre) (right (held .if1 .left))))
 
 prev-is-right-requires : tie.Need-prev-is-right-requires
 prev-is-right-requires c κs = search needs
 
 returns-3 : tie.Need-returns-3
 returns-3 c =
-    same-as (λ right _. linked-from (c .before .before .before .before .node-at .ensures) (c .before .before .before .node-at2 .ensures) (passed (c .before .before .next-of-place-is-right .ensures) (c .before .if2 .left)) right)
-    (λ all. linked-prev (c .before .before .before .before .node-at .ensures) (c .before .before .before .node-at2 .ensures) (all (c .before .before .before .before .before .if1 .left))) (c .prev-is-right .ensures)
+    let next = c .before .before .before .before .node-at .ensures in
+    let prev = c .before .before .before .node-at2 .ensures in
+    let held = c .before .before .before .before .before in
+    let next-right = passed (c .before .before .next-of-place-is-right .ensures) (c .before .if2 .left) in
+    same-as (λ right _. linked-from next prev next-right right) (λ all. linked-prev next prev (all (held .if1 .left))) (c .prev-is-right .ensures)
 
 pub place-is-right-spec : {M : Type 1} → statement M
 place-is-right-spec =

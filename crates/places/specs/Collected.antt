@@ -1,0 +1,22 @@
+-- Entries by their places, and all of them in order.
+use mathlib.Core.Path.{_≡_}
+use mathlib.Core.Logic.{ite}
+use mathlib.Core.List.{List, []}
+use Prim.Native.Nat.{ℕ, zero, suc, _≤_, _<_}
+use native.Mathlib.Decide.{decLe}
+use Rattle.places.specs.Order.{Entry}
+use Rattle.places.specs.Entries.{put}
+
+-- The entries in the first n places, in order. A place with id 0 is free.
+unfoldable pub collected : (at : ℕ → Entry) → ℕ → List Entry
+collected at zero = []
+collected at (suc i) = ite (decLe 1 (at i .id)) (put (at i) (collected at i)) (collected at i)
+
+-- Ids differ from place to place.
+abbrev pub Once : (ids : ℕ → ℕ) → Type 0
+Once ids = (i j : ℕ) → i < 64 → j < 64 → 1 ≤ ids i → ids i ≡ ids j → i ≡ j
+
+-- f′ is f with the value v at x.
+pub record IsSet {A : Type 0} (f : ℕ → A) (x : ℕ) (v : A) (f′ : ℕ → A) : Type 0 where
+  pub at : f′ x ≡ v
+  pub elsewhere : (y : ℕ) → (y ≡ x → ⊥) → f′ y ≡ f y

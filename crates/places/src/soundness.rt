@@ -1,0 +1,129 @@
+// Whether entries at 64 places are within the bounds of a queue. Every loop runs over the places, so each test ends on any value whatever.
+ghost use Prim.Native.Nat.{_≤_};
+ghost use Rattle.basics.specs.Below.{Below};
+ghost use Rattle.basics.specs.Decides.{Decides};
+ghost use Rattle.basics.specs.NewIds.{at, New};
+ghost use Rattle.places.specs.Soundness.{KeyWithin, AllWithin, KeysWithin, IsLesser, IsLeast, ShortSpan, PlacesSound};
+use basics::is_new_at;
+
+// The largest key that may be filed.
+pub const KEY_LIMIT: u32 = 2_000_000_000;
+
+// Whether no id is above 32,767.
+fn ids_in_range(ids: &[u16; 64]) -> bool
+    ensures { λ r. ⌜ Decides r (Below 64 (λ i. at (now (ids .entry)) i ≤ 32767)) ⌝ }
+{
+    let mut i: usize = 0;
+    while i < 64 {
+        let id = ids[i];
+        if 32767 < id {
+            return false;
+        }
+        i += 1;
+    }
+    true
+}
+
+// Whether no id stands at two places.
+fn ids_differ(ids: &[u16; 64]) -> bool
+    ensures { λ r. ⌜ Decides r (Below 64 (New (at (now (ids .entry))))) ⌝ }
+{
+    let mut i: usize = 0;
+    while i < 64 {
+        if !is_new_at(ids, i) {
+            return false;
+        }
+        i += 1;
+    }
+    true
+}
+
+// Whether a number is at most a bound; at a free place nothing is above it.
+fn key_is_within(id: u16, key: u32, top: u32) -> bool
+    ensures { λ r. ⌜ Decides r (KeyWithin id key top) ⌝ }
+{
+    if id < 1 {
+        return true;
+    }
+    key <= top
+}
+
+// Whether no place that holds an entry has a number above its bound.
+fn all_within<'a>(ids: &'a [u16; 64], values: &'a [u32; 64], tops: &'a [u32; 64]) -> bool
+    ensures { λ r. ⌜ Decides r (AllWithin (at (now (ids .entry))) (at (now (values .entry))) (at (now (tops .entry)))) ⌝ }
+{
+    let mut i: usize = 0;
+    while i < 64 {
+        if !key_is_within(ids[i], values[i], tops[i]) {
+            return false;
+        }
+        i += 1;
+    }
+    true
+}
+
+// Whether no entry has a key above the one bound.
+fn keys_are_within<'a>(ids: &'a [u16; 64], keys: &'a [u32; 64], top: u32) -> bool
+    ensures { λ r. ⌜ Decides r (KeysWithin (at (now (ids .entry))) (at (now (keys .entry))) top) ⌝ }
+{
+    let tops = [top; 64];
+    all_within(ids, keys, &tops)
+}
+
+// The smaller of m and a key, where a free place has none.
+fn lesser(id: u16, key: u32, m: u32) -> u32
+    ensures { λ r. ⌜ IsLesser id key m r ⌝ }
+{
+    if id < 1 {
+        return m;
+    }
+    if key < m {
+        return key;
+    }
+    m
+}
+
+// Starts at the limit on keys, which is the answer where no place holds an entry, and leaves room for the span above it.
+pub fn least_key<'a>(ids: &'a [u16; 64], keys: &'a [u32; 64]) -> u32
+    ensures { λ r. ⌜ IsLeast (at (now (ids .entry))) (at (now (keys .entry))) 64 r ⌝ }
+{
+    let mut m: u32 = KEY_LIMIT;
+    let mut i: usize = 0;
+    while i < 64 {
+        m = lesser(ids[i], keys[i], m);
+        i += 1;
+    }
+    m
+}
+
+// No key may lie more than 479 above the least.
+fn span_is_short<'a>(ids: &'a [u16; 64], keys: &'a [u32; 64]) -> bool
+    requires { ⌜ KeysWithin (at (now ids)) (at (now keys)) 2_000_000_000 ⌝ }
+    ensures { λ r. ⌜ Decides r (ShortSpan (at (now (ids .entry))) (at (now (keys .entry)))) ⌝ }
+{
+    let least = least_key(ids, keys);
+    keys_are_within(ids, keys, least + 479)
+}
+
+// Whether ids are in range and differ, and keys and releases are within the bounds.
+pub fn places_are_sound<'a>(
+    ids: &'a [u16; 64],
+    keys: &'a [u32; 64],
+    releases: &'a [u32; 64],
+) -> bool
+    ensures { λ r. ⌜ Decides r (PlacesSound (at (now (ids .entry))) (at (now (keys .entry))) (at (now (releases .entry)))) ⌝ }
+{
+    if !ids_in_range(ids) {
+        return false;
+    }
+    if !ids_differ(ids) {
+        return false;
+    }
+    if !keys_are_within(ids, keys, KEY_LIMIT) {
+        return false;
+    }
+    if !all_within(ids, releases, keys) {
+        return false;
+    }
+    span_is_short(ids, keys)
+}

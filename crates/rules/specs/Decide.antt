@@ -8,9 +8,10 @@ use native.Mathlib.Omega.{arith}
 use Rattle.basics.specs.Below.{decide-below, decide-implies}
 use Rattle.rules.specs.Streams.{Stream, due}
 use Rattle.rules.specs.Demand.{packets-by, demand, future, DemandRule, StartRule}
-use Rattle.rules.specs.Division.{packets-some}
-use Rattle.rules.specs.CountBy.{count-by, count-by-demand, count-by-future}
-use Rattle.rules.specs.Busy.{settled}
+use Rattle.rules.specs.Facts.Division.{packets-some}
+use Rattle.rules.specs.Facts.CountBy.{count-by-demand, count-by-future}
+use Rattle.rules.specs.Ready.{count-by}
+use Rattle.rules.specs.Facts.Busy.{settled}
 
 -- from some time on, f grows by the same in every `frame` units
 record Steady (f : ℕ → ℕ) : Type 0 where

@@ -1,28 +1,10 @@
--- The rules of the planner. A reader has to believe Streams, Demand, Slots, Plans and Runs; the rest is proved of them.
+-- The rules of the planner. A reader has to believe Streams, Demand, Slots, Plans and Runs; in the words of Ready theorems and tests speak of
+-- tables. Decide has the deciders, and the rest is proved.
 pub mod Streams
 pub mod Demand
 pub mod Slots
 pub mod Plans
 pub mod Runs
-pub mod Division
-pub mod Sums
-pub mod CountBy
-pub mod Busy
-pub mod LazyStart
+pub mod Ready
 pub mod Decide
-pub mod Lists
-pub mod Equality
-pub mod DuePackets
-pub mod SlotFacts
-pub mod SlotOrder
-pub mod SlotPackets
-pub mod RoundKept
-pub mod PacketFacts
-pub mod Calls
-pub mod PlanFacts
-pub mod Fewest
-pub mod LazyServes
-pub mod Exact
-pub mod LazyRun
-pub mod Tests
-pub mod Examples
+pub mod Facts

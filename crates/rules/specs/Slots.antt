@@ -38,7 +38,9 @@ riders s ss = filter (λ (x : Stream). may-ride (packet x 0) s) ss
 
 -- Whether the unserved packet of x goes before that of y, by due time, then release, then number.
 unfoldable pub goes-before : Stream → Stream → Bool
-goes-before x y = ltb (due x) (due y) || (eqb (due x) (due y) && (ltb (x .release) (y .release) || (eqb (x .release) (y .release) && leb (x .number) (y .number))))
+goes-before x y =
+    ltb (due x) (due y)
+    || (eqb (due x) (due y) && (ltb (x .release) (y .release) || (eqb (x .release) (y .release) && leb (x .number) (y .number))))
 
 -- x put into its place in a list that is in that order.
 unfoldable pub put-in-order : Stream → List Stream → List Stream

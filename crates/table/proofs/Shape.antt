@@ -8,11 +8,13 @@ use mir.Val.{Val}
 use denote.Laws.{Is}
 use denote.Struct.Declared.{row}
 use Rattle.table.specs.declared.Table.{Table}
-use Rattle.table.proofs.Stream
-use Rattle.table.proofs.Table
+use Rattle.table.proofs.Record as the-record
+use Rattle.table.proofs.Table as the-table
 
-pub table-shape : (table : Table) (vs : List Val) → Is (row Rattle.table.proofs.Table.the-type) table vs → length (table .streams) ≡ 64
-table-shape table vs is = let fields = is .1 .1 in sym (length-map (table .streams) (Rattle.table.proofs.Stream.the-type .to)) ∙ fields .1 .0 .1 .0 .1
+pub table-shape : (table : Table) (vs : List Val) → Is (row the-table.the-type) table vs → length (table .streams) ≡ 64
+table-shape table vs is =
+    let fields = is .1 .1 in
+    sym (length-map (table .streams) (the-record.the-type .to)) ∙ fields .1 .0 .1 .0 .1
 
-pub table-holds : (table : Table) (vs : List Val) → Is (row Rattle.table.proofs.Table.the-type) table vs → table .count ≤ 64 → table .count ≤ length (table .streams)
+pub table-holds : (table : Table) (vs : List Val) → Is (row the-table.the-type) table vs → table .count ≤ 64 → table .count ≤ length (table .streams)
 table-holds table vs is few = omega (arith, table-shape table vs is)

@@ -5,13 +5,13 @@ use mathlib.Core.List.{List, List·Mem}
 use Prim.Native.Nat.{ℕ, zero, suc, _+_, _-_, _*_, _≤_, _<_}
 use native.Mathlib.Decide.{ℕ-discrete}
 use lib.ListN.{getD, length}
+use Rattle.basics.specs.Limits.{last-start, places, most-slots}
 use Rattle.rules.specs.Streams.{Stream, WellFormed}
 use Rattle.rules.specs.Demand.{packets-by, demand, DemandRule, StartRule, IsLazyStart}
-use Rattle.rules.specs.Sums.{AllWellFormed, most-in}
-use Rattle.rules.specs.CountBy.{count-by}
-use Rattle.rules.specs.Busy.{IsBusy}
-use Rattle.table.specs.Table.{streams-of, stream-at, value-of, IsColumn}
-use Rattle.table.specs.Range.{StreamInRange, AreNear}
+use Rattle.rules.specs.Ready.{AllWellFormed, most-in, count-by, IsBusy}
+use Rattle.table.specs.Table.{records-of, stream-of, streams-of, stream-at, value-of, IsColumn}
+use Rattle.table.specs.Range.{RecordInRange, AreNear}
+use Rattle.table.specs.declared.Record.{Record}
 use Rattle.table.specs.declared.Table.{Table}
 use Rattle.table.specs.declared.lengths.Sums.{Sums}
 use Rattle.table.specs.declared.Column.{Column}
@@ -32,19 +32,19 @@ pub record IsNextStart (b now cap : ℕ) (ss : List Stream) (r : ℕ) : Type 0 w
 
 -- What the test of the demand rule relies on.
 pub record CanTestDemand (b F : ℕ) (table : Table) : Type 0 where
-  pub count : table .count ≤ 64
-  pub slots : (1 ≤ b) × (b ≤ 64)
+  pub count : table .count ≤ places
+  pub slots : (1 ≤ b) × (b ≤ most-slots)
   pub frame : (1 ≤ F) × (F ≤ 5040)
-  pub streams : (s : Stream) → List·Mem s (streams-of table) → StreamInRange F s
+  pub records : (r : Record) → List·Mem r (records-of table) → RecordInRange F r
 
 -- What the test of the start rule relies on: a busy length too.
 pub record CanFindStart (b x latest T : ℕ) (table : Table) : Type 0 where
-  pub count : table .count ≤ 64
-  pub slots : (1 ≤ b) × (b ≤ 64)
-  pub now : (1 ≤ x) × (x ≤ 1_000_000_001)
+  pub count : table .count ≤ places
+  pub slots : (1 ≤ b) × (b ≤ most-slots)
+  pub now : (1 ≤ x) × (x ≤ last-start + 1)
   pub cap : x ≤ latest
-  pub formed : (s : Stream) → List·Mem s (streams-of table) → WellFormed s × (s .period ≤ 240)
-  pub near : AreNear x (streams-of table)
+  pub formed : (r : Record) → List·Mem r (records-of table) → WellFormed (stream-of r) × (r .period ≤ 240)
+  pub near : AreNear x (records-of table)
   pub busy : IsBusy b (streams-of table) T
   pub short : T ≤ 5040
 
@@ -64,14 +64,14 @@ pub record IsWalk (first : Stream → ℕ) (table : Table) (t : ℕ) (next : Lis
 
 -- A table with its periods in range, and the column of them.
 pub record HasPeriods (table : Table) (periods : List ℕ) : Type 0 where
-  pub count : table .count ≤ 64
+  pub count : table .count ≤ places
   pub within : table .count ≤ length (table .streams)
   pub column : IsColumn Period table periods
   pub range : (k : ℕ) → k < table .count → (1 ≤ stream-at table k .period) × (stream-at table k .period ≤ 240)
 
 -- What narrowing a column relies on: none of its values is below the base, or more than 60,000 above it.
 pub record CanNarrow (column : Column) (table : Table) (base : ℕ) : Type 0 where
-  pub count : table .count ≤ 64
+  pub count : table .count ≤ places
   pub fits : base ≤ 1_900_000_000
   pub near : (k : ℕ) → k < table .count → (base ≤ value-of column (stream-at table k)) × (value-of column (stream-at table k) ≤ base + 60_000)
 
@@ -113,7 +113,7 @@ pub record AreSums (table : Table) (t : ℕ) (dues releases : List ℕ) (sums : 
   pub most-is : sums .most ≡ most-in (streams-of table) t
   pub next-dues : AreNext (λ s. s .deadline) table t dues
   pub next-releases : AreNext (λ s. 1) table t releases
-  pub few : (sums .demand ≤ 64 * t) × (sums .most ≤ 64 * t)
+  pub few : (sums .demand ≤ places * t) × (sums .most ≤ places * t)
 
 -- What carrying the sums to length t relies on: they are the rules' at the length before.
 pub record CanCarry (table : Table) (periods dues releases : List ℕ) (t : ℕ) (before : Sums) : Type 0 where

@@ -1,23 +1,23 @@
--- A table's changes place by place: where a stream belongs, and the lists with a place opened or closed.
+-- A table's changes place by place: where a record belongs, and the lists with a place opened or closed.
 use mathlib.Core.List.{List, _∷_, _++_}
 use Prim.Native.Nat.{ℕ, suc, _≤_, _<_}
 use lib.ListN.{take, drop}
-use Rattle.rules.specs.Streams.{Stream}
-use Rattle.table.specs.Table.{stream-at}
+use Rattle.table.specs.Table.{record-at}
+use Rattle.table.specs.declared.Record.{Record}
 use Rattle.table.specs.declared.Table.{Table}
 
 -- The first place with a greater id, or the count.
 pub record IsPlaceBefore (table : Table) (id r : ℕ) : Type 0 where
   pub within : r ≤ table .count
-  pub earlier : (k : ℕ) → k < r → stream-at table k .number ≤ id
-  pub later : r < table .count → id < stream-at table r .number
+  pub earlier : (k : ℕ) → k < r → record-at table k .id ≤ id
+  pub later : r < table .count → id < record-at table r .id
 
--- The list with a stream put at a place, and the list with the stream of a place taken out.
-abbrev pub opened : ℕ → Stream → List Stream → List Stream
-opened place x ss = take place ss ++ x ∷ drop place ss
+-- The list with a record put at a place, and the list with the record of a place taken out.
+abbrev pub opened : ℕ → Record → List Record → List Record
+opened place x rs = take place rs ++ x ∷ drop place rs
 
-abbrev pub closed : ℕ → List Stream → List Stream
-closed place ss = take place ss ++ drop (suc place) ss
+abbrev pub closed : ℕ → List Record → List Record
+closed place rs = take place rs ++ drop (suc place) rs
 
 -- What opening a place relies on, and what closing one does.
 pub record CanOpen (table : Table) (place : ℕ) : Type 0 where

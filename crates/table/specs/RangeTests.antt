@@ -1,25 +1,26 @@
--- What the tests that together decide the range of a table ask of a number, of a stream, and of a stream after another.
+-- What the tests that together decide the range of a table ask of a number, of a record, and of a record after another.
 use Prim.Native.Nat.{ℕ, _+_, _≤_, _<_}
-use Rattle.rules.specs.Streams.{Stream, due}
-use Rattle.table.specs.Range.{StreamInRange}
+use Rattle.table.specs.Table.{due-of}
+use Rattle.table.specs.Range.{RecordInRange}
+use Rattle.table.specs.declared.Record.{Record}
 
 -- n is 1 to `most`.
 abbrev pub OneTo : ℕ → ℕ → Type 0
 OneTo most n = (1 ≤ n) × (n ≤ most)
 
--- 01 (b), of one stream: its unserved packet is due after now ..
-abbrev pub DueAfterNow : ℕ → Stream → Type 0
-DueAfterNow now s = now < due s
+-- 01 (b), of one record: its unserved packet is due after now ..
+abbrev pub DueAfterNow : ℕ → Record → Type 0
+DueAfterNow now r = now < due-of r
 
 -- .. and released no later than now + 239.
-abbrev pub ReleasedSoon : ℕ → Stream → Type 0
-ReleasedSoon now s = s .release ≤ now + 239
+abbrev pub ReleasedSoon : ℕ → Record → Type 0
+ReleasedSoon now r = r .release ≤ now + 239
 
-abbrev pub IsNear : ℕ → Stream → Type 0
-IsNear now s = DueAfterNow now s × ReleasedSoon now s
+abbrev pub IsNear : ℕ → Record → Type 0
+IsNear now r = DueAfterNow now r × ReleasedSoon now r
 
--- The stream may stand behind one with the id `before`; the first stands behind 0.
-pub record CanFollow (frame now before : ℕ) (s : Stream) : Type 0 where
-  pub after : before < s .number
-  pub in-range : StreamInRange frame s
-  pub near : IsNear now s
+-- The record may stand behind one with the id `before`; the first stands behind 0.
+pub record CanFollow (frame now before : ℕ) (r : Record) : Type 0 where
+  pub after : before < r .id
+  pub in-range : RecordInRange frame r
+  pub near : IsNear now r

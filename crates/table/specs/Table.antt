@@ -1,29 +1,46 @@
--- A table of streams in code, as the rules see it.
+-- A table of records in code, and what the rules see of it.
 use mathlib.Core.Path.{_≡_}
 use mathlib.Core.List.{List, map}
-use Prim.Native.Nat.{ℕ, _≤_, _<_}
+use Prim.Native.Nat.{ℕ, _+_, _≤_, _<_}
 use lib.ListN.{take, getD}
+use Rattle.basics.specs.Limits.{places}
 use Rattle.rules.specs.Streams.{Stream, due}
-use Rattle.table.specs.declared.Stream
+use Rattle.table.specs.declared.Record.{Record}
 use Rattle.table.specs.declared.Table.{Table}
 use Rattle.table.specs.declared.Column.{Column}
 use Rattle.table.specs.declared.Column.the-variants.{Period, Deadline, Due, Release}
 
--- A stream of the table as the rules see it: its number is its id.
-abbrev pub stream-of : Rattle.table.specs.declared.Stream.Stream → Stream
-stream-of s = record { number = s .id; period = s .period; deadline = s .deadline; release = s .release }
+-- The records are those in the first `count` places; the other places do not count.
+abbrev pub records-of : Table → List Record
+records-of t = take (t .count) (t .streams)
 
--- The streams are those in the first `count` places; the other places do not count.
+-- A record as the rules see it: a stream whose number is its id.
+abbrev pub stream-of : Record → Stream
+stream-of r = record { number = r .id; period = r .period; deadline = r .deadline; release = r .release }
+
+-- What the rules see of records.
+abbrev pub as-streams : List Record → List Stream
+as-streams rs = map stream-of rs
+
+-- What the rules see of a table.
 abbrev pub streams-of : Table → List Stream
-streams-of t = map stream-of (take (t .count) (t .streams))
+streams-of t = as-streams (records-of t)
+
+-- When a record's first unserved packet is due.
+abbrev pub due-of : Record → ℕ
+due-of r = r .release + r .deadline
 
 -- What an unused place is filled with.
-abbrev pub no-stream : Rattle.table.specs.declared.Stream.Stream
-no-stream = record { id = 0; period = 0; deadline = 0; release = 0 }
+abbrev pub no-record : Record
+no-record = record { id = 0; period = 0; deadline = 0; release = 0 }
 
--- The stream at a place.
+-- The record at a place.
+abbrev pub record-at : Table → ℕ → Record
+record-at t k = getD (t .streams) k no-record
+
+-- The stream at a place, as the rules see it.
 abbrev pub stream-at : Table → ℕ → Stream
-stream-at t k = stream-of (getD (t .streams) k no-stream)
+stream-at t k = stream-of (record-at t k)
 
 -- What a column of the table has of a stream.
 abbrev pub value-of : Column → Stream → ℕ
@@ -34,7 +51,7 @@ value-of Release s = s .release
 
 -- What reading a column relies on.
 pub record CanRead (column : Column) (table : Table) : Type 0 where
-  pub count : table .count ≤ 64
+  pub count : table .count ≤ places
   pub small : (k : ℕ) → k < table .count → value-of column (stream-at table k) ≤ 2_000_000_000
 
 -- The values of a column, stream by stream.

@@ -1,10 +1,10 @@
 // The table's changes: a stream put in, one taken out, and one served.
 ghost use mathlib.Core.Path.{_≡_};
 ghost use Prim.Native.Nat.{_≤_};
-ghost use Rattle.table.specs.Table.{streams-of, stream-of};
-ghost use Rattle.table.specs.Changes.{IsPlaceOf, HasStreams, CanPut, CanChange, put-by-id, without-id, sent};
+ghost use Rattle.table.specs.Table.{records-of};
+ghost use Rattle.table.specs.Changes.{IsPlaceOf, HasRecords, CanPut, CanChange, put-by-id, without-id, sent};
 ghost use Rattle.table.specs.Places.{IsPlaceBefore, CanOpen, opened, CanClose, closed};
-use super::Stream;
+use super::Record;
 use super::Table;
 
 // The place of an id, or the count where no stream has it.
@@ -27,7 +27,7 @@ pub fn place_of_in_range(table: Table, id: u32) -> usize
 // The place falls free and the later streams move one place down.
 fn closed_in_range(table: Table, place: usize) -> Table
     requires { ⌜ CanClose table place ⌝ }
-    ensures { λ r. ⌜ HasStreams (closed place (streams-of table)) r ⌝ }
+    ensures { λ r. ⌜ HasRecords (closed place (records-of table)) r ⌝ }
 {
     let mut streams = table.streams;
     let last = table.count - 1;
@@ -37,7 +37,7 @@ fn closed_in_range(table: Table, place: usize) -> Table
         streams[i] = later;
         i += 1;
     }
-    streams[last] = Stream {
+    streams[last] = Record {
         id: 0,
         period: 0,
         deadline: 0,
@@ -52,7 +52,7 @@ fn closed_in_range(table: Table, place: usize) -> Table
 // The stream of an id taken out; the place that falls free gets zeros.
 pub fn take_out_in_range(table: Table, id: u32) -> Table
     requires { ⌜ CanChange table id ⌝ }
-    ensures { λ r. ⌜ HasStreams (without-id id (streams-of table)) r ⌝ }
+    ensures { λ r. ⌜ HasRecords (without-id id (records-of table)) r ⌝ }
 {
     let place = place_of_in_range(table, id);
     closed_in_range(table, place)
@@ -76,9 +76,9 @@ fn place_before_in_range(table: Table, id: u32) -> usize
 }
 
 // The streams from the place on move one place up and the stream goes there.
-fn opened_in_range(table: Table, place: usize, stream: Stream) -> Table
+fn opened_in_range(table: Table, place: usize, stream: Record) -> Table
     requires { ⌜ CanOpen table place ⌝ }
-    ensures { λ r. ⌜ HasStreams (opened place (stream-of stream) (streams-of table)) r ⌝ }
+    ensures { λ r. ⌜ HasRecords (opened place stream (records-of table)) r ⌝ }
 {
     let mut streams = table.streams;
     let mut i = table.count;
@@ -95,20 +95,20 @@ fn opened_in_range(table: Table, place: usize, stream: Stream) -> Table
 }
 
 // A stream put at its place by ascending id.
-pub fn put_in_range(table: Table, stream: Stream) -> Table
+pub fn put_in_range(table: Table, stream: Record) -> Table
     requires { ⌜ CanPut table ⌝ }
-    ensures { λ r. ⌜ HasStreams (put-by-id (stream-of stream) (streams-of table)) r ⌝ }
+    ensures { λ r. ⌜ HasRecords (put-by-id stream (records-of table)) r ⌝ }
 {
     let place = place_before_in_range(table, stream.id);
     opened_in_range(table, place, stream)
 }
 
 // A stream at its next packet.
-pub fn at_next_packet_in_range(stream: Stream) -> Stream
+pub fn at_next_packet_in_range(stream: Record) -> Record
     requires { ⌜ (stream .release ≤ 2_000_000_000) × (stream .period ≤ 240) ⌝ }
     ensures { λ r. ⌜ r ≡ sent stream ⌝ }
 {
-    Stream {
+    Record {
         id: stream.id,
         period: stream.period,
         deadline: stream.deadline,

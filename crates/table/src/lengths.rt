@@ -6,7 +6,7 @@ ghost use Rattle.table.specs.Table.{streams-of};
 ghost use Rattle.table.specs.Lengths.{CanNarrow, IsNarrow, CanAdvance, IsAdvance, CanCarry, AreSums, CanTestDemand, IsBusyLength, hits, after-hit};
 use super::Column;
 use super::Table;
-use super::column_in_range;
+use super::columns::column_in_range;
 
 // The values of a column less a base, in 16 bits.
 pub fn narrow_column_in_range(table: Table, column: Column, base: u32) -> [u16; 64]

@@ -1,37 +1,37 @@
 // A table of streams in ascending id, and the rules' tests on it. The planner above knows its table to be in range and calls the forms
 // whose names end in _in_range.
-ghost use mathlib.Core.Path.{_≡_};
 ghost use Prim.Native.Nat.{_≤_};
 ghost use Rattle.table.specs.Ids.{IsIds};
-ghost use Rattle.table.specs.Table.{CanRead, IsColumn, stream-of, value-of};
 pub use changes::at_next_packet_in_range;
 pub use changes::place_of_in_range;
 pub use changes::put_in_range;
 pub use changes::take_out_in_range;
+pub use columns::column_in_range;
 pub use lengths::busy_length_in_range;
 pub use range::in_range;
 pub use range::is_one_to;
 pub use start::next_start_in_range;
 
 mod changes;
+mod columns;
 mod lengths;
 mod range;
 mod start;
 
-// A stream, with the release of its first unserved packet.
+// A stream's record, with the release of its first unserved packet.
 #[repr(C)]
-pub struct Stream {
+pub struct Record {
     pub id: u32,
     pub period: u32,
     pub deadline: u32,
     pub release: u32,
 }
 
-// The streams are those in the first `count` places.
+// The records are those in the first `count` places.
 #[repr(C)]
 pub struct Table {
     pub count: usize,
-    pub streams: [Stream; 64],
+    pub streams: [Record; 64],
 }
 
 // What a column of numbers is made of.
@@ -40,35 +40,6 @@ pub enum Column {
     Deadline,
     Due,
     Release,
-}
-
-// The value of a column of one stream.
-fn value_in_range(stream: Stream, column: Column) -> u32
-    requires { ⌜ value-of column (stream-of stream) ≤ 2_000_000_000 ⌝ }
-    ensures { λ r. ⌜ r ≡ value-of column (stream-of stream) ⌝ }
-{
-    match column {
-        Column::Period => stream.period,
-        Column::Deadline => stream.deadline,
-        Column::Due => stream.release + stream.deadline,
-        Column::Release => stream.release,
-    }
-}
-
-// One number of each stream, at its place.
-pub fn column_in_range(table: Table, column: Column) -> [u32; 64]
-    requires { ⌜ CanRead column table ⌝ }
-    ensures { λ r. ⌜ IsColumn column table r ⌝ }
-{
-    let streams = table.streams;
-    let mut values = [0u32; 64];
-    let mut i: usize = 0;
-    while i < table.count {
-        let stream = streams[i];
-        values[i] = value_in_range(stream, column);
-        i += 1;
-    }
-    values
 }
 
 // The ids at their places, and a number above every id at the free ones, so that all 64 rise.

@@ -1,9 +1,10 @@
 // Whether a table is in range, on any value whatever: no sum is formed that could overflow.
-use super::Stream;
+use super::Record;
 use super::Table;
+use basics::LARGEST_ID;
+use basics::PLACES;
 ghost use Rattle.basics.specs.Decides.{Decides};
-ghost use Rattle.table.specs.Table.{stream-of};
-ghost use Rattle.table.specs.Range.{StreamInRange, TableInRange};
+ghost use Rattle.table.specs.Range.{RecordInRange, TableInRange};
 ghost use Rattle.table.specs.RangeTests.{OneTo, DueAfterNow, ReleasedSoon, IsNear, CanFollow};
 
 // Whether a number is 1 to a limit.
@@ -17,10 +18,10 @@ pub fn is_one_to(n: u32, most: u32) -> bool
 }
 
 // The frame is divided only once the period is known not to be 0.
-fn stream_in_range(stream: Stream, frame: u32) -> bool
-    ensures { λ r. ⌜ Decides r (StreamInRange frame (stream-of stream)) ⌝ }
+fn record_in_range(stream: Record, frame: u32) -> bool
+    ensures { λ r. ⌜ Decides r (RecordInRange frame stream) ⌝ }
 {
-    if !is_one_to(stream.id, 32767) {
+    if !is_one_to(stream.id, LARGEST_ID) {
         return false;
     }
     if !is_one_to(stream.period, 240) {
@@ -33,8 +34,8 @@ fn stream_in_range(stream: Stream, frame: u32) -> bool
 }
 
 // Release and deadline are not added up: a release after now is enough.
-fn is_due_after(stream: Stream, now: u32) -> bool
-    ensures { λ r. ⌜ Decides r (DueAfterNow now (stream-of stream)) ⌝ }
+fn is_due_after(stream: Record, now: u32) -> bool
+    ensures { λ r. ⌜ Decides r (DueAfterNow now stream) ⌝ }
 {
     if now < stream.release {
         return true;
@@ -42,8 +43,8 @@ fn is_due_after(stream: Stream, now: u32) -> bool
     now - stream.release < stream.deadline
 }
 
-fn is_released_soon(stream: Stream, now: u32) -> bool
-    ensures { λ r. ⌜ Decides r (ReleasedSoon now (stream-of stream)) ⌝ }
+fn is_released_soon(stream: Record, now: u32) -> bool
+    ensures { λ r. ⌜ Decides r (ReleasedSoon now stream) ⌝ }
 {
     if stream.release < 239 {
         return true;
@@ -51,8 +52,8 @@ fn is_released_soon(stream: Stream, now: u32) -> bool
     stream.release - 239 <= now
 }
 
-fn is_near(stream: Stream, now: u32) -> bool
-    ensures { λ r. ⌜ Decides r (IsNear now (stream-of stream)) ⌝ }
+fn is_near(stream: Record, now: u32) -> bool
+    ensures { λ r. ⌜ Decides r (IsNear now stream) ⌝ }
 {
     if !is_due_after(stream, now) {
         return false;
@@ -61,13 +62,13 @@ fn is_near(stream: Stream, now: u32) -> bool
 }
 
 // Whether a stream is in range and near, and its id is greater than the one before.
-fn can_follow(stream: Stream, before: u32, frame: u32, now: u32) -> bool
-    ensures { λ r. ⌜ Decides r (CanFollow frame now before (stream-of stream)) ⌝ }
+fn can_follow(stream: Record, before: u32, frame: u32, now: u32) -> bool
+    ensures { λ r. ⌜ Decides r (CanFollow frame now before stream) ⌝ }
 {
     if stream.id <= before {
         return false;
     }
-    if !stream_in_range(stream, frame) {
+    if !record_in_range(stream, frame) {
         return false;
     }
     is_near(stream, now)
@@ -77,7 +78,7 @@ fn can_follow(stream: Stream, before: u32, frame: u32, now: u32) -> bool
 pub fn in_range(table: Table, frame: u32, now: u32) -> bool
     ensures { λ r. ⌜ Decides r (TableInRange frame now table) ⌝ }
 {
-    if 64 < table.count {
+    if PLACES < table.count {
         return false;
     }
     let streams = table.streams;

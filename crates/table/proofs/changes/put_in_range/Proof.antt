@@ -2,8 +2,7 @@
 use mathlib.Core.Path.{sym, _∙_}
 use native.Mathlib.Omega.{arith}
 use borrow.Author.Needs.{needs}
-use Rattle.table.specs.Table.{stream-of}
-use Rattle.table.specs.ChangeFacts.{put-at-place}
+use Rattle.table.specs.Facts.Changes.{put-at-place}
 use Rattle.table.proofs.Shape.{table-holds}
 use Rattle.table.proofs.changes.put_in_range.Statement.{statement}
 use Rattle.table.proofs.changes.put_in_range.Tie as tie
@@ -16,9 +15,12 @@ opened-in-range-requires c κs = search needs
 
 returns : tie.Need-returns
 returns c =
+    let start = c .before .before in
+    let is-place = c .before .place-before-in-range .ensures in
     let is-opened = c .opened-in-range .ensures in
-    let holds = table-holds (c .before .before .args .table) _ (c .before .before .good .0) (omega (arith, c .before .before .pre .room)) in
-    record { streams = is-opened .streams ∙ sym (put-at-place _ holds (stream-of (c .before .before .args .stream)) _ (c .before .place-before-in-range .ensures)); count = is-opened .count }
+    let holds = table-holds (start .args .table) _ (start .good .0) (omega arith) in
+    let put = put-at-place _ holds (start .args .stream) _ is-place in
+    record { records = is-opened .records ∙ sym put; count = is-opened .count }
 
 pub put-in-range-spec : {M : Type 1} → statement M
 put-in-range-spec = tie.close (tie.spec place-before-in-range-requires opened-in-range-requires returns)

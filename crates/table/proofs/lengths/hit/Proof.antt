@@ -1,6 +1,6 @@
--- `table::lengths::hit` meets its contract.
+-- `table::lengths::hit` meets its contract: the two cases are those of `hits`.
 use mathlib.Core.Path.{refl, sym}
-use Rattle.table.specs.LengthFacts.{hits-yes, hits-no}
+use Rattle.table.specs.Facts.Lengths.{hits-yes, hits-no}
 use Rattle.table.specs.NoDivision.{NeverDivides, never-divides}
 use Rattle.table.proofs.lengths.hit.Statement.{statement}
 use Rattle.table.proofs.lengths.hit.Tie as tie

@@ -1,7 +1,7 @@
 -- `table::lengths::time_after` meets its contract: the two cases are those of `after-hit`.
 use mathlib.Core.Path.{refl, sym}
 use borrow.Author.Needs.{needs}
-use Rattle.table.specs.LengthFacts.{after-yes, after-no}
+use Rattle.table.specs.Facts.Lengths.{after-yes, after-no}
 use Rattle.table.specs.NoDivision.{NeverDivides, never-divides}
 use Rattle.table.proofs.lengths.time_after.Statement.{statement}
 use Rattle.table.proofs.lengths.time_after.Tie as tie

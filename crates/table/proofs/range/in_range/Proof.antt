@@ -2,8 +2,8 @@
 use Prim.Native.Nat.{_-_, _≤_}
 use native.Mathlib.Nat.{lt-irrefl, lt-of-lt-of-le}
 use native.Mathlib.Omega.{arith}
-use Rattle.basics.specs.Decides.{decides-no, decides-yes, failed, passed}
-use Rattle.table.specs.RangeTestFacts.{Followed, none-followed, one-more-followed, all-followed, next-follows}
+use Rattle.basics.specs.Facts.Decides.{decides-no, decides-yes, failed, passed}
+use Rattle.table.specs.Facts.RangeTests.{Followed, none-followed, one-more-followed, all-followed, next-follows}
 use Rattle.table.proofs.Shape.{table-shape}
 use Rattle.table.proofs.range.in_range.Statement.{statement}
 use Rattle.table.proofs.range.in_range.Tie as tie
@@ -34,8 +34,10 @@ returns-2 c =
     let start = c .before .before .before .before .before .before .before .before .before in
     let args = start .args in
     let loop = c .before .before .before .before .before .loop in
-    let follows = next-follows (args .frame) (args .now) (args .table) (loop .i) (loop .before) (table-shape (args .table) _ (start .good .0)) in
-    decides-no (λ holds. failed (c .before .can-follow .ensures) (c .if3 .taken) (follows (c .before .before .before .if2 .taken) (loop .inv .1) holds))
+    let inside = c .before .before .before .if2 .taken in
+    let shape = table-shape (args .table) _ (start .good .0) in
+    let follows = next-follows (args .frame) (args .now) (args .table) (loop .i) (loop .before) shape inside (loop .inv .1) in
+    decides-no (λ holds. failed (c .before .can-follow .ensures) (c .if3 .taken) (follows holds))
 
 add-i : tie.Need-add-i Inv-loop μ-loop
 add-i c = omega arith
@@ -52,11 +54,10 @@ loop-again c =
 
 returns-3 : tie.Need-returns-3 Inv-loop μ-loop
 returns-3 c =
-    let start = c .before .before .before .before .before .before in
-    let args = start .args in
+    let args = c .before .before .before .before .before .before .args in
     let loop = c .before .before .loop in
-    let in-range = all-followed (args .frame) (args .now) (args .table) (loop .i) (loop .before) (c .before .before .before .before .if1 .left) in
-    decides-yes (in-range (table-shape (args .table) _ (start .good .0)) (c .if2 .left) (loop .inv .1))
+    let few = c .before .before .before .before .if1 .left in
+    decides-yes (all-followed (args .frame) (args .now) (args .table) (loop .i) (loop .before) few (c .if2 .left) (loop .inv .1))
 
 pub in-range-spec : {M : Type 1} → statement M
 in-range-spec =

@@ -1,6 +1,6 @@
 -- `table::range::is_one_to` meets its contract: each end is compared.
 use native.Mathlib.Nat.{lt-irrefl, lt-of-lt-of-le}
-use Rattle.basics.specs.Decides.{decides-no, same-as, no-more-than}
+use Rattle.basics.specs.Facts.Decides.{decides-no, same-as, no-more-than}
 use Rattle.table.proofs.range.is_one_to.Statement.{statement}
 use Rattle.table.proofs.range.is_one_to.Tie as tie
 

@@ -1,7 +1,7 @@
 -- `table::range::is_released_soon` meets its contract: a release below 239 is soon whatever now is, and any other is compared less 239.
 use Prim.Native.Nat.{_-_}
 use native.Mathlib.Omega.{arith}
-use Rattle.basics.specs.Decides.{decides-yes, same-as, no-more-than}
+use Rattle.basics.specs.Facts.Decides.{decides-yes, same-as, no-more-than}
 use Rattle.table.proofs.range.is_released_soon.Statement.{statement}
 use Rattle.table.proofs.range.is_released_soon.Tie as tie
 
@@ -11,7 +11,7 @@ returns c = decides-yes (omega arith)
 returns-2 : tie.Need-returns-2
 returns-2 c =
     let args = c .before .before .before .args in
-    same-as (λ soon. omega (arith, soon)) (λ soon. omega (arith, soon)) (no-more-than (args .stream .release - 239) (args .now))
+    same-as (λ soon. omega arith) (λ soon. omega arith) (no-more-than (args .stream .release - 239) (args .now))
 
 pub is-released-soon-spec : {M : Type 1} → statement M
 is-released-soon-spec = tie.close (tie.spec returns returns-2)

@@ -3,7 +3,7 @@ use Prim.Native.Nat.{_≤_, _-_}
 use native.Mathlib.Omega.{arith}
 use borrow.Author.Needs.{needs}
 use Rattle.table.specs.Start.{IsLeastOf}
-use Rattle.table.specs.StartFacts.{least-one, least-more, least-all}
+use Rattle.table.specs.Facts.Start.{least-one, least-more, least-all}
 use Rattle.table.proofs.start.least_of.Statement.{statement}
 use Rattle.table.proofs.start.least_of.Tie as tie
 
@@ -41,7 +41,7 @@ loop-less : tie.Need-loop-less Inv-loop μ-loop
 loop-less c = search needs
 
 loop-again : tie.Need-loop-again Inv-loop μ-loop
-loop-again c = (omega arith, (omega arith, least-more (c .before .before .before .loop .inv .1 .1) (omega (arith, c .lesser .ensures, c .before .wide2 .ensures))))
+loop-again c = (omega arith, (omega arith, least-more (c .before .before .before .loop .inv .1 .1) (omega arith)))
 
 returns : tie.Need-returns Inv-loop μ-loop
 returns c = least-all (omega arith) (c .before .loop .inv .1 .1)

@@ -1,4 +1,4 @@
--- `table::start::lesser` meets its contract.
+-- `table::start::lesser` meets its contract: the test tells which of the two is the lesser.
 use mathlib.Core.Path.{refl}
 use borrow.Author.Needs.{needs}
 use Rattle.table.specs.NoDivision.{NeverDivides, never-divides}

@@ -4,8 +4,8 @@ use Prim.Native.Nat.{_-_, _*_, _≤_}
 use native.Mathlib.Nat.{mul-le-mul}
 use native.Mathlib.Omega.{arith}
 use Rattle.rules.specs.Demand.{ceil}
-use Rattle.rules.specs.Division.{ceil-least}
-use Rattle.table.specs.SearchFacts.{few-rounds, too-few-rounds}
+use Rattle.rules.specs.Facts.Division.{ceil-least}
+use Rattle.table.specs.Facts.Search.{few-rounds, too-few-rounds}
 use Rattle.table.specs.NoDivision.{NeverDivides, never-divides}
 use Rattle.table.proofs.start.rounds_from.Statement.{statement}
 use Rattle.table.proofs.start.rounds_from.Tie as tie
@@ -22,12 +22,16 @@ loop-holds c = c .pre .low
 
 mul-loop : tie.Need-mul-loop Inv-loop μ-loop
 mul-loop c =
-    let few : c .loop .n ≤ 1_000_000 = omega (arith, few-rounds (c .before .args .slots) (c .before .args .packets) (c .before .pre .slots .0), c .before .pre .few) in
-    let most : c .before .args .slots * c .loop .n ≤ 64 * 1_000_000 = mul-le-mul (c .before .pre .slots .1) few in
-    omega (arith, most)
+    let args = c .before .args in
+    let slots = c .before .pre .slots in
+    let few : c .loop .n ≤ 1_000_000 = omega (arith, few-rounds (args .slots) (args .packets) (slots .0)) in
+    let most : args .slots * c .loop .n ≤ 64 * 1_000_000 = mul-le-mul (slots .1) few in
+    omega arith
 
 add-n : tie.Need-add-n Inv-loop μ-loop
-add-n c = omega (arith, few-rounds (c .before .before .args .slots) (c .before .before .args .packets) (c .before .before .pre .slots .0), c .before .loop .inv, c .before .before .pre .few)
+add-n c =
+    let start = c .before .before in
+    omega (arith, few-rounds (start .args .slots) (start .args .packets) (start .pre .slots .0))
 
 loop-less : tie.Need-loop-less Inv-loop μ-loop
 loop-less c = omega (arith, too-few-rounds (c .before .before .pre .slots .0) (c .loop-test .taken))
@@ -36,7 +40,7 @@ loop-again : tie.Need-loop-again Inv-loop μ-loop
 loop-again c = omega (arith, too-few-rounds (c .before .before .pre .slots .0) (c .loop-test .taken))
 
 returns : tie.Need-returns Inv-loop μ-loop
-returns c = omega (arith, ceil-least _ _ _ (c .before .before .pre .slots .0) (c .loop-test .left), c .before .loop .inv)
+returns c = omega (arith, ceil-least _ _ _ (c .before .before .pre .slots .0) (c .loop-test .left))
 
 pub rounds-from-spec : {M : Type 1} → statement M
 rounds-from-spec =

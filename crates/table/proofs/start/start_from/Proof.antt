@@ -8,13 +8,13 @@ use mir.Syntax.{w16}
 use borrow.Author.Needs.{needs}
 use borrow.Kind.Array.{good-length, eInt}
 use Rattle.rules.specs.Demand.{ceil}
-use Rattle.rules.specs.Division.{div-mono}
+use Rattle.rules.specs.Facts.Division.{div-mono}
 use Rattle.table.specs.Table.{streams-of}
 use Rattle.table.specs.Lengths.{IsWalk}
-use Rattle.table.specs.LengthFacts.{can-advance}
+use Rattle.table.specs.Facts.Lengths.{can-advance}
 use Rattle.table.specs.Start.{due-from}
-use Rattle.table.specs.StartFacts.{Looked, looked-none}
-use Rattle.table.specs.SearchFacts.{begins, few-rounds, walked, stops, goes-on, ends}
+use Rattle.table.specs.Facts.Start.{Looked, looked-none}
+use Rattle.table.specs.Facts.Search.{begins, few-rounds, walked, stops, goes-on, ends}
 use Rattle.table.specs.NoDivision.{LoopsNeverDivide, loops-never-divide}
 use Rattle.table.proofs.start.start_from.Statement.{statement}
 use Rattle.table.proofs.start.start_from.Tie as tie
@@ -22,49 +22,73 @@ use Rattle.table.proofs.start.start_from.Code as code
 
 abbrev Inv-loop : tie.InvT-loop
 Inv-loop table slots now cap first busy periods end times₀ sum₀ needed₀ start₀ t₀ times sum needed start t =
-    (first ≤ t) × (t ≤ first + busy) × (sum ≤ 64 * (t - first)) × (needed ≤ ceil sum slots) × Looked slots now cap (streams-of table) first t start
+    (first ≤ t)
+    × (t ≤ first + busy)
+    × (sum ≤ 64 * (t - first))
+    × (needed ≤ ceil sum slots)
+    × Looked slots now cap (streams-of table) first t start
     × ((before : ℕ) × (before + 1 ≡ t - now) × IsWalk (due-from now) table before times sum)
 
 abbrev μ-loop : tie.MeasureT-loop
 μ-loop table slots now cap first busy periods end times₀ sum₀ needed₀ start₀ t₀ times sum needed start t = first + busy - t
 
 add-end : tie.Need-add-end Inv-loop μ-loop
-add-end c = omega (arith, c .pre .near, c .pre .can .now, c .pre .can .short)
+add-end c = omega arith
 
 loop-holds : tie.Need-loop-holds Inv-loop μ-loop
 loop-holds c =
-    let start = begins (c .pre) (good-length (eInt w16) 64 (c .args .dues) _ (c .good .1 .1 .0)) in
-    (omega arith, omega arith, omega arith, omega arith, looked-none _ _ _ _ _ (c .pre .can .cap), (c .args .first - c .args .now - 1, omega (arith, c .pre .after), start))
+    let args = c .args in
+    let walk = begins (c .pre) (good-length (eInt w16) 64 (args .dues) _ (c .good .1 .1 .0)) in (
+      omega arith,
+      omega arith,
+      omega arith,
+      omega arith,
+      looked-none _ _ _ _ _ (c .pre .can .cap),
+      (args .first - args .now - 1, omega arith, walk),
+    )
 
 sub-advance : tie.Need-sub-advance Inv-loop μ-loop
-sub-advance c = omega (arith, c .before .before .before .before .pre .after)
+sub-advance c = omega arith
 
 cast-advance : tie.Need-cast-advance Inv-loop μ-loop
-cast-advance c = omega (arith, c .before .before .before .before .pre .near, c .before .before .before .before .pre .can .short)
+cast-advance c = omega arith
 
 advance-requires : tie.Need-advance-requires Inv-loop μ-loop
-advance-requires c κs = can-advance (c .before .before .before .before .pre .has) (c .before .before .before .loop .inv .5 .2 .are-next) (omega (arith, c .before .before .before .before .pre .near, c .before .before .before .before .pre .can .short))
+advance-requires c κs =
+    let pre = c .before .before .before .before .pre in
+    let loop = c .before .before .before .loop in
+    can-advance (pre .has) (loop .inv .5 .2 .are-next) (omega arith)
 
 cast-sum : tie.Need-cast-sum Inv-loop μ-loop
-cast-sum c = omega (arith, c .advance .ensures .few, c .before .before .before .before .before .pre .can .count)
+cast-sum c = omega arith
 
 add-sum : tie.Need-add-sum Inv-loop μ-loop
-add-sum c = omega (arith, c .advance .ensures .few, c .before .before .before .before .before .pre .can .count, c .before .before .before .before .before .pre .can .short)
+add-sum c = omega arith
 
 rounds-from-requires : tie.Need-rounds-from-requires Inv-loop μ-loop
 rounds-from-requires c κs =
+    let pre = c .before .before .before .before .before .pre in
+    let slots = c .before .before .before .before .before .args .slots in
+    let loop = c .before .before .before .before .loop in
     record {
-      slots = c .before .before .before .before .before .pre .can .slots;
-      few = omega (arith, c .advance .ensures .few, c .before .before .before .before .before .pre .can .count, c .before .before .before .before .before .pre .can .short);
-      low = le-trans (c .before .before .before .before .loop .inv .3) (div-mono (c .before .before .before .before .before .args .slots) (c .before .before .before .before .before .pre .can .slots .0) (omega arith));
+      slots = pre .can .slots;
+      few = omega arith;
+      low = le-trans (loop .inv .3) (div-mono slots (pre .can .slots .0) (omega arith));
     }
 
 add-if1 : tie.Need-add-if1 Inv-loop μ-loop
 add-if1 c =
-    omega (arith, few-rounds (c .before .before .before .before .before .before .args .slots) (c .before .before .before .before .before .loop .sum + c .before .advance .result) (c .before .before .before .before .before .before .pre .can .slots .0), c .rounds-from .ensures, c .before .advance .ensures .few, c .before .before .before .before .before .before .pre .can .count, c .before .before .before .before .before .before .pre .can .now, c .before .before .before .before .before .before .pre .can .short)
+    let entry = c .before .before .before .before .before .before in
+    let loop = c .before .before .before .before .before .loop in
+    let packets = loop .sum + c .before .advance .result in
+    omega (arith, few-rounds (entry .args .slots) packets (entry .pre .can .slots .0))
 
 returns : tie.Need-returns Inv-loop μ-loop
-returns c = stops (c .before .before .before .before .before .before .before .pre) (walked (c .before .before .before .before .before .before .before .pre) (c .before .before .before .before .before .before .loop .inv .5) (c .before .before .advance .ensures)) (c .before .rounds-from .ensures) (c .before .before .before .before .before .before .loop .inv .0) (omega arith)
+returns c =
+    let pre = c .before .before .before .before .before .before .before .pre in
+    let loop = c .before .before .before .before .before .before .loop in
+    let walk = walked pre (loop .inv .5) (c .before .before .advance .ensures) in
+    stops pre walk (c .before .rounds-from .ensures) (loop .inv .0) (omega arith)
 
 sub-lesser : tie.Need-sub-lesser Inv-loop μ-loop
 sub-lesser c = omega arith
@@ -73,20 +97,23 @@ lesser-requires : tie.Need-lesser-requires Inv-loop μ-loop
 lesser-requires c κs = search needs
 
 add-t : tie.Need-add-t Inv-loop μ-loop
-add-t c = omega (arith, c .before .before .before .before .before .before .before .before .pre .near, c .before .before .before .before .before .before .before .before .pre .can .now, c .before .before .before .before .before .before .before .before .pre .can .short)
+add-t c = omega arith
 
 loop-less : tie.Need-loop-less Inv-loop μ-loop
 loop-less c = omega arith
 
 loop-again : tie.Need-loop-again Inv-loop μ-loop
 loop-again c =
-    let walk = walked (c .before .before .before .before .before .before .before .before .pre) (c .before .before .before .before .before .before .before .loop .inv .5) (c .before .before .before .advance .ensures) in (
+    let entry = c .before .before .before .before .before .before .before .before in
+    let loop = c .before .before .before .before .before .before .before .loop in
+    let rounds = c .before .before .rounds-from .ensures in
+    let walk = walked (entry .pre) (loop .inv .5) (c .before .before .before .advance .ensures) in (
       omega arith,
       omega arith,
-      omega (arith, c .before .before .before .advance .ensures .few, c .before .before .before .before .before .before .before .before .pre .can .count),
-      omega (arith, c .before .before .rounds-from .ensures),
-      goes-on (c .before .before .before .before .before .before .before .before .pre) walk (c .before .before .rounds-from .ensures) (c .before .before .before .before .before .before .before .loop .inv .0) (omega arith) (c .before .before .before .before .before .before .before .loop .inv .4) (c .lesser .ensures),
-      (c .before .before .before .before .before .before .before .loop .t - c .before .before .before .before .before .before .before .before .args .now, omega (arith, c .before .before .before .before .before .before .before .before .pre .after), walk),
+      omega arith,
+      omega arith,
+      goes-on (entry .pre) walk rounds (loop .inv .0) (omega arith) (loop .inv .4) (c .lesser .ensures),
+      (loop .t - entry .args .now, omega arith, walk),
     )
 
 returns-2 : tie.Need-returns-2 Inv-loop μ-loop

@@ -1,0 +1,22 @@
+-- What is proved of the definitions beside this folder; a reader may believe it unread.
+pub mod Division
+pub mod Sums
+pub mod CountBy
+pub mod Busy
+pub mod LazyStart
+pub mod Lists
+pub mod Equality
+pub mod DuePackets
+pub mod Slots
+pub mod SlotOrder
+pub mod SlotPackets
+pub mod RoundKept
+pub mod Packets
+pub mod SentInTime
+pub mod Plans
+pub mod Fewest
+pub mod LazyServes
+pub mod Exact
+pub mod LazyRun
+pub mod Tests
+pub mod Examples

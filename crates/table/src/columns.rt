@@ -1,0 +1,36 @@
+// Columns of a table: the periods, deadlines, due times or releases of its streams.
+ghost use mathlib.Core.Path.{_≡_};
+ghost use Prim.Native.Nat.{_≤_};
+ghost use Rattle.table.specs.Table.{CanRead, IsColumn, stream-of, value-of};
+use super::Column;
+use super::Record;
+use super::Table;
+
+// The value of a column of one stream.
+fn value_in_range(stream: Record, column: Column) -> u32
+    requires { ⌜ value-of column (stream-of stream) ≤ 2_000_000_000 ⌝ }
+    ensures { λ r. ⌜ r ≡ value-of column (stream-of stream) ⌝ }
+{
+    match column {
+        Column::Period => stream.period,
+        Column::Deadline => stream.deadline,
+        Column::Due => stream.release + stream.deadline,
+        Column::Release => stream.release,
+    }
+}
+
+// One number of each stream, at its place.
+pub fn column_in_range(table: Table, column: Column) -> [u32; 64]
+    requires { ⌜ CanRead column table ⌝ }
+    ensures { λ r. ⌜ IsColumn column table r ⌝ }
+{
+    let streams = table.streams;
+    let mut values = [0u32; 64];
+    let mut i: usize = 0;
+    while i < table.count {
+        let stream = streams[i];
+        values[i] = value_in_range(stream, column);
+        i += 1;
+    }
+    values
+}

@@ -6,13 +6,8 @@ use mir.Val.{Val}
 use denote.Laws.{Is}
 use denote.Struct.Declared.{row}
 use Rattle.table.proofs.Shape.{table-shape}
-use Rattle.queue.proofs.Shape.{has-shape}
-use Rattle.queue.specs.Inner.{HasShape}
 use Rattle.planner.specs.declared.Planner.{Planner}
 use Rattle.planner.proofs.Planner
 
 pub planner-shape : (p : Planner) (vs : List Val) → Is (row Rattle.planner.proofs.Planner.the-type) p vs → length (p .table .streams) ≡ 64
 planner-shape p vs is = let fields = is .1 .1 in table-shape (p .table) _ (fields .1 .1 .1 .1 .0)
-
-pub planner-queue-shape : (p : Planner) (vs : List Val) → Is (row Rattle.planner.proofs.Planner.the-type) p vs → HasShape (p .queue)
-planner-queue-shape p vs is = let fields = is .1 .1 in has-shape (p .queue) _ (fields .1 .1 .1 .1 .1 .0)

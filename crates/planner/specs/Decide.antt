@@ -2,51 +2,55 @@
 use mathlib.Core.Path.{sym, subst}
 use mathlib.Core.Logic.{Dec·and, ∥∥₁-elim}
 use mathlib.Core.List.{List, List·Mem, List·Mem-prop, decidableBAll, decidableBEx, decMem, instDecidablePairwise}
-use Prim.Native.Nat.{ℕ, _+_, _≤_}
+use Prim.Native.Nat.{ℕ, _+_, _≤_, _<_}
 use native.Mathlib.Decide.{decLe, decLt, decDvd, map-dec}
 use lib.ListN.{length}
-use Rattle.rules.specs.Streams.{Stream, due}
 use Rattle.rules.specs.Decide.{decide-demand-rule, decide-start-rule}
-use Rattle.table.specs.Range.{StreamInRange, StreamsInRange, AreNear}
-use Rattle.queue.specs.Order.{Entry}
-use Rattle.queue.specs.EntryFacts.{entry-discrete}
-use Rattle.queue.specs.Layout.{entries}
-use Rattle.queue.specs.Layout
-use Rattle.queue.specs.Layout.Decide
-use Rattle.planner.specs.Content.{Content, content, now-of}
+use Rattle.table.specs.Table.{due-of}
+use Rattle.table.specs.Range.{RecordInRange, RecordsInRange, AreNear}
+use Rattle.table.specs.declared.Record.{Record}
+use Rattle.queue.specs.Interface.{Entry, entries, entry-discrete}
+use Rattle.queue.specs.Interface
+use Rattle.planner.specs.Content.{Content, content, slots-of, streams-in, now-of, cap-of}
 use Rattle.planner.specs.Sound.{InRange, ContentSound, entry-of, Files, Sound}
 use Rattle.planner.specs.declared.Planner.{Planner}
+use Rattle.rules.specs.Slots.{slots}
+use Rattle.rules.specs.Facts.LazyStart.{lazy-unique}
+use Rattle.planner.specs.Facts.Sound.{sound-start}
+use Rattle.planner.specs.Start.{IsStart, StartsLate}
 
 -- 1 to a limit
 decide-within : (limit n : ℕ) → Dec ((1 ≤ n) × (n ≤ limit))
 decide-within limit n = Dec·and (decLe 1 n) (decLe n limit)
 
-decide-stream : (frame : ℕ) (s : Stream) → Dec (StreamInRange frame s)
-decide-stream frame s =
-    map-dec (λ w. record { id = w .0; period = w .1 .0; divides = w .1 .1 .0; deadline = w .1 .1 .1 }) (λ r. (r .id, (r .period, (r .divides, r .deadline))))
-    (Dec·and (decide-within 32767 (s .number))
-    (Dec·and (decide-within 240 (s .period))
-    (Dec·and (decDvd (s .period) frame) (decide-within (s .period) (s .deadline)))))
+decide-record : (frame : ℕ) (r : Record) → Dec (RecordInRange frame r)
+decide-record frame r =
+    map-dec
+    (λ w. record { id = w .0; period = w .1 .0; divides = w .1 .1 .0; deadline = w .1 .1 .1 })
+    (λ range. (range .id, (range .period, (range .divides, range .deadline))))
+    (Dec·and (decide-within 32767 (r .id))
+    (Dec·and (decide-within 240 (r .period))
+    (Dec·and (decDvd (r .period) frame) (decide-within (r .period) (r .deadline)))))
 
-decide-streams : (frame : ℕ) (ss : List Stream) → Dec (StreamsInRange frame ss)
-decide-streams frame ss =
+decide-records : (frame : ℕ) (rs : List Record) → Dec (RecordsInRange frame rs)
+decide-records frame rs =
     map-dec (λ w. record { each = w .0; ascending = w .1 }) (λ r. (r .each, r .ascending))
-    (Dec·and (decidableBAll (decide-stream frame) ss) (instDecidablePairwise (λ (x y : Stream). decLt (x .number) (y .number)) ss))
+    (Dec·and (decidableBAll (decide-record frame) rs) (instDecidablePairwise (λ (x y : Record). decLt (x .id) (y .id)) rs))
 
-decide-near : (now : ℕ) (ss : List Stream) → Dec (AreNear now ss)
-decide-near now ss =
+decide-near : (now : ℕ) (rs : List Record) → Dec (AreNear now rs)
+decide-near now rs =
     map-dec (λ w. record { due-after = w .0; released = w .1 }) (λ r. (r .due-after, r .released))
-    (Dec·and (decidableBAll (λ (s : Stream). decLt now (due s)) ss) (decidableBAll (λ (s : Stream). decLe (s .release) (now + 239)) ss))
+    (Dec·and (decidableBAll (λ (r : Record). decLt now (due-of r)) rs) (decidableBAll (λ (r : Record). decLe (r .release) (now + 239)) rs))
 
 decide-in-range : (h : Content) → Dec (InRange h)
 decide-in-range h =
     map-dec
-    (λ w. record { slots = w .0; frame = w .1 .0; gap = w .1 .1 .0; last = w .1 .1 .1 .0; at-most = w .1 .1 .1 .1 .0; streams = w .1 .1 .1 .1 .1 })
-    (λ r. (r .slots, (r .frame, (r .gap, (r .last, (r .at-most, r .streams))))))
+    (λ w. record { slots = w .0; frame = w .1 .0; gap = w .1 .1 .0; last = w .1 .1 .1 .0; at-most = w .1 .1 .1 .1 .0; records = w .1 .1 .1 .1 .1 })
+    (λ r. (r .slots, (r .frame, (r .gap, (r .last, (r .at-most, r .records))))))
     (Dec·and (decide-within 64 (h .slots))
     (Dec·and (decide-within 5040 (h .frame))
     (Dec·and (decide-within 255 (h .gap))
-    (Dec·and (decLe (h .last) 1_000_000_000) (Dec·and (decLe (length (h .table)) 64) (decide-streams (h .frame) (h .table)))))))
+    (Dec·and (decLe (h .last) 1_000_000_000) (Dec·and (decLe (length (h .table)) 64) (decide-records (h .frame) (h .table)))))))
 
 decide-content : (h : Content) → Dec (ContentSound h)
 decide-content h =
@@ -54,15 +58,15 @@ decide-content h =
     (λ r. (r .in-range, (r .near, (r .demand-rule, r .start-rule))))
     (Dec·and (decide-in-range h)
     (Dec·and (decide-near (now-of h) (h .table))
-    (Dec·and (decide-demand-rule (h .slots) (h .table)) (decide-start-rule (h .slots) (now-of h) (h .table)))))
+    (Dec·and (decide-demand-rule (slots-of h) (streams-in h)) (decide-start-rule (slots-of h) (now-of h) (streams-in h)))))
 
-decide-files : (es : List Entry) (ss : List Stream) → Dec (Files es ss)
-decide-files es ss =
+decide-files : (es : List Entry) (rs : List Record) → Dec (Files es rs)
+decide-files es rs =
     map-dec
     (λ w e. (w .0 e, λ some. ∥∥₁-elim some List·Mem-prop (λ v. subst (λ (a : Entry). List·Mem a es) (sym (v .2)) (w .1 (v .0) (v .1)))))
-    (λ files. (λ e m. files e .0 m, λ s m. files (entry-of s) .1 ∣ (s, m, λ i. entry-of s) ∣₁))
-    (Dec·and (decidableBAll (λ (e : Entry). decidableBEx (λ (s : Stream). entry-discrete e (entry-of s)) ss) es)
-    (decidableBAll (λ (s : Stream). decMem entry-discrete (entry-of s) es) ss))
+    (λ files. (λ e m. files e .0 m, λ r m. files (entry-of r) .1 ∣ (r, m, λ i. entry-of r) ∣₁))
+    (Dec·and (decidableBAll (λ (e : Entry). decidableBEx (λ (r : Record). entry-discrete e (entry-of r)) rs) es)
+    (decidableBAll (λ (r : Record). decMem entry-discrete (entry-of r) es) rs))
 
 pub decide-sound : (p : Planner) → Dec (Sound p)
 decide-sound p =
@@ -70,4 +74,17 @@ decide-sound p =
     (λ s. (s .count, (s .content-sound, (s .queue-sound, s .files))))
     (Dec·and (decLe (p .table .count) 64)
     (Dec·and (decide-content (content p))
-    (Dec·and (Layout.Decide.decide-sound (p .queue)) (decide-files (entries (p .queue)) (content p .table)))))
+    (Dec·and (Interface.decide-sound (p .queue)) (decide-files (entries (p .queue)) (content p .table)))))
+
+pub decide-late : (p : Planner) → Dec (Sound p) → Dec (StartsLate p)
+decide-late p (no unsound) = yes (λ sound. absurd (unsound sound))
+decide-late p (yes sound) = go (sound-start p sound)
+  where
+    go : ((s : ℕ) × IsStart (content p) s) → Dec (StartsLate p)
+    go (s, lazy) = at (decLt 1_000_000_000 s)
+      where
+        at : Dec (1_000_000_000 < s) → Dec (StartsLate p)
+        at (yes late) =
+            let h = content p in
+            yes (λ _ x is. subst (λ (y : ℕ). 1_000_000_000 < y) (lazy-unique (slots-of h) (cap-of h) (streams-in h) s x lazy is) late)
+        at (no early) = no (λ all. early (all sound s lazy))

@@ -1,22 +1,11 @@
--- The planner. A reader has to believe Content, Sound, Open, Calls and Round; the rest is proved of them, or is what inner functions promise one another.
+-- The planner. A reader has to believe Content, Sound, Open, AddRemove, Start and Round; Needs is what inner functions promise one another,
+-- Decide has the deciders, and the rest is proved.
 pub mod Content
 pub mod Sound
+pub mod Start
 pub mod Decide
-pub mod TableFacts
-pub mod SoundFacts
 pub mod Open
-pub mod Calls
+pub mod AddRemove
 pub mod Round
-pub mod OpenFacts
-pub mod CallFacts
-pub mod SlotWalk
-pub mod Inner
-pub mod Kept
-pub mod FilesFacts
-pub mod SoundTest
-pub mod ServeFacts
-pub mod ChangeFacts
-pub mod AddFacts
-pub mod ChooseFacts
-pub mod ServingFacts
-pub mod RoundFacts
+pub mod Needs
+pub mod Facts

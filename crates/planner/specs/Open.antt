@@ -5,10 +5,12 @@ use mathlib.Core.List.{List, [], _∷_}
 use Prim.Native.Nat.{ℕ, _≤_, _<_}
 use native.Mathlib.Decide.{decLe, decLt}
 use lib.ListN.{replicate}
+use Rattle.basics.specs.Limits.{last-start, places, most-slots}
 use Rattle.basics.specs.Refusals.{Refusal, answer-of}
-use Rattle.table.specs.Table.{no-stream}
+use Rattle.table.specs.Table.{no-record}
 use Rattle.table.specs.declared.Table.{Table}
-use Rattle.queue.specs.Layout.{empty-queue}
+use Rattle.queue.specs.Interface.{empty-queue}
+use Rattle.queue.specs.declared.Queue.{Queue}
 use Rattle.planner.specs.Content.{Content, content}
 use Rattle.planner.specs.declared.Planner.{Planner}
 use Rattle.planner.specs.declared.Changed.{Changed}
@@ -19,35 +21,58 @@ not-in number limit n = record { number = number; Applies = ((1 ≤ n) × (n ≤
 
 -- 01: "4 for T above 1,000,000,000".
 abbrev pub late : ℕ → Refusal
-late t = record { number = 4; Applies = 1_000_000_000 < t; decided = decLt 1_000_000_000 t }
+late t = record { number = 4; Applies = last-start < t; decided = decLt last-start t }
+
+-- What open is passed: B, F, G and T.
+pub record Setting : Type 0 where
+  pub slots : ℕ
+  pub frame : ℕ
+  pub gap : ℕ
+  pub last : ℕ
+
+-- These numbers as a setting.
+abbrev pub setting : (slots frame gap last : ℕ) → Setting
+setting slots frame gap last = record { slots = slots; frame = frame; gap = gap; last = last }
+
+-- The setting of the closed planner.
+abbrev pub zeros : Setting
+zeros = setting 0 0 0 0
+
+-- What open would be passed to give a planner these numbers.
+abbrev pub setting-of : Content → Setting
+setting-of h = setting (h .slots) (h .frame) (h .gap) (h .last)
 
 -- 01: "It refuses 1 for B, 2 for F, 3 for G out of range, 4 for T above 1,000,000,000."
-abbrev pub open-refusals : ℕ → ℕ → ℕ → ℕ → List Refusal
-open-refusals b f g t = not-in 1 64 b ∷ not-in 2 5040 f ∷ not-in 3 255 g ∷ late t ∷ []
+abbrev pub open-refusals : Setting → List Refusal
+open-refusals s = not-in 1 most-slots (s .slots) ∷ not-in 2 5040 (s .frame) ∷ not-in 3 255 (s .gap) ∷ late (s .last) ∷ []
 
 -- 01: "The new planner has L = T."
-abbrev pub opened : ℕ → ℕ → ℕ → ℕ → Content
-opened b f g t = record { slots = b; frame = f; gap = g; last = t; table = [] }
+abbrev pub opened : Setting → Content
+opened s = record { slots = s .slots; frame = s .frame; gap = s .gap; last = s .last; table = [] }
 
 -- 01: "the closed planner: every number 0, no stream, an empty queue".
 abbrev pub closed : Content
-closed = opened 0 0 0 0
+closed = opened zeros
 
 -- A table with no stream, and zeros at every place for one.
 abbrev pub no-streams : Table
-no-streams = record { count = 0; streams = replicate 64 no-stream }
+no-streams = record { count = 0; streams = replicate places no-record }
 
--- The planner with these numbers, no stream and the empty queue.
-abbrev pub fresh : ℕ → ℕ → ℕ → ℕ → Planner
-fresh b f g t = record { slots = b; frame = f; gap = g; last = t; table = no-streams; queue = empty-queue }
+-- The planner with these numbers, no stream and this queue.
+abbrev pub fresh-with : Setting → Queue → Planner
+fresh-with s queue = record { slots = s .slots; frame = s .frame; gap = s .gap; last = s .last; table = no-streams; queue = queue }
+
+-- The same with the empty queue.
+abbrev pub fresh : Setting → Planner
+fresh s = fresh-with s empty-queue
 
 -- A planner is the fresh one, so that nothing of it is left free, and holds what was passed.
-pub record IsFresh (b f g t : ℕ) (p : Planner) : Type 0 where
-  pub whole : p ≡ fresh b f g t
-  pub holds : content p ≡ opened b f g t
+pub record IsFresh (s : Setting) (p : Planner) : Type 0 where
+  pub whole : p ≡ fresh s
+  pub holds : content p ≡ opened s
 
 -- Open gives the answer of its refusals; the planner holds what was passed, or is the closed one if refused.
-pub record IsOpened (b f g t : ℕ) (r : Changed) : Type 0 where
-  pub answer : r .answer ≡ answer-of (open-refusals b f g t)
-  pub opened : answer-of (open-refusals b f g t) ≡ 0 → IsFresh b f g t (r .planner)
-  pub closed : (answer-of (open-refusals b f g t) ≡ 0 → ⊥) → IsFresh 0 0 0 0 (r .planner)
+pub record IsOpened (s : Setting) (r : Changed) : Type 0 where
+  pub answer : r .answer ≡ answer-of (open-refusals s)
+  pub opened : answer-of (open-refusals s) ≡ 0 → IsFresh s (r .planner)
+  pub closed : (answer-of (open-refusals s) ≡ 0 → ⊥) → IsFresh zeros (r .planner)

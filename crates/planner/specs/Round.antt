@@ -1,40 +1,21 @@
 -- What round answers and leaves, as document 01 says it under "Round".
-use mathlib.Core.Path.{_≡_, subst}
-use mathlib.Core.List.{List, [], _∷_, _++_, map}
+use mathlib.Core.Path.{_≡_}
+use mathlib.Core.Logic.{ite}
+use mathlib.Core.List.{List, [], _∷_, _++_, map, decMem}
 use Prim.Native.Nat.{ℕ, _<_}
-use native.Mathlib.Decide.{decLt}
+use native.Mathlib.Decide.{decLt, ℕ-discrete}
 use lib.ListN.{length, drop}
 use Rattle.basics.specs.Refusals.{Refusal, answer-of}
 use Rattle.rules.specs.Streams.{Stream}
-use Rattle.rules.specs.Demand.{IsLazyStart}
-use Rattle.rules.specs.Slots.{slots, after-round}
-use Rattle.rules.specs.LazyStart.{lazy-unique}
-use Rattle.planner.specs.Content.{Content, content, cap-of}
-use Rattle.planner.specs.Sound.{Sound}
-use Rattle.planner.specs.Decide.{decide-sound}
-use Rattle.planner.specs.SoundFacts.{sound-start}
-use Rattle.planner.specs.Calls.{unsound, IsSoundWith}
+use Rattle.rules.specs.Slots.{slots}
+use Rattle.table.specs.Changes.{sent}
+use Rattle.table.specs.declared.Record.{Record}
+use Rattle.planner.specs.Content.{slots-of, streams-in, Content, content, with-table, with-last}
+use Rattle.planner.specs.Decide.{decide-sound, decide-late}
+use Rattle.planner.specs.AddRemove.{unsound, IsSoundWith}
 use Rattle.planner.specs.declared.Planner.{Planner}
 use Rattle.planner.specs.declared.Rounded.{Rounded}
-
--- The start that the lazy rule gives: the least of L + 1 + G "and all t - ceil(h(t) / B) with h(t) > 0".
-abbrev pub IsStart : Content → ℕ → Type 0
-IsStart h s = IsLazyStart (h .slots) (cap-of h) (h .table) s
-
--- The start of a sound planner is after the last one, 1,000,000,000.
-abbrev pub StartsLate : Planner → Type 0
-StartsLate p = Sound p → (s : ℕ) → IsStart (content p) s → 1_000_000_000 < s
-
-pub decide-late : (p : Planner) → Dec (Sound p) → Dec (StartsLate p)
-decide-late p (no unsound) = yes (λ sound. absurd (unsound sound))
-decide-late p (yes sound) = go (sound-start p sound)
-  where
-    go : ((s : ℕ) × IsStart (content p) s) → Dec (StartsLate p)
-    go (s, lazy) = at (decLt 1_000_000_000 s)
-      where
-        at : Dec (1_000_000_000 < s) → Dec (StartsLate p)
-        at (yes late) = yes (λ _ x is. subst (λ (y : ℕ). 1_000_000_000 < y) (lazy-unique (content p .slots) (cap-of (content p)) (content p .table) s x lazy is) late)
-        at (no early) = no (λ all. early (all sound s lazy))
+use Rattle.planner.specs.Start.{IsStart, StartsLate}
 
 -- 01: "16 for a buffer shorter than B".
 abbrev pub short-buffer : Content → List ℕ → Refusal
@@ -50,11 +31,15 @@ round-refusals p buffer = unsound p ∷ short-buffer (content p) buffer ∷ late
 
 -- The ids that a round at s writes: those of its slots, in their order.
 abbrev pub ids-at : Content → ℕ → List ℕ
-ids-at h s = map (λ (x : Stream). x .number) (slots (h .slots) s (h .table))
+ids-at h s = map (λ (x : Stream). x .number) (slots (slots-of h) s (streams-in h))
 
--- What the planner holds after a round at s: L is s, and each stream served is at its next packet.
+-- A record whose id is listed at its next packet, another as it is.
+abbrev pub sent-in : List ℕ → Record → Record
+sent-in ids r = ite (decMem ℕ-discrete (r .id) ids) (sent r) r
+
+-- What the planner holds after a round at s: L is s, and each record served is at its next packet.
 abbrev pub rounded : Content → ℕ → Content
-rounded h s = record { slots = h .slots; frame = h .frame; gap = h .gap; last = s; table = after-round (h .slots) s (h .table) }
+rounded h s = with-table (with-last h s) (map (sent-in (ids-at h s)) (h .table))
 
 -- 01: "A refusal gives start 0 and count 0", "hands back the planner .. unchanged and writes nothing".
 pub record IsRefusedRound (p : Planner) (before after : List ℕ) (r : Rounded) : Type 0 where

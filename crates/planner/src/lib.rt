@@ -1,16 +1,16 @@
 // The lazy round planner: a planner goes in by value and comes back by value.
 ghost use mathlib.Core.Path.{_≡_};
 ghost use lib.ListN.{take};
-ghost use Rattle.basics.specs.Refusals.{answer-of};
-ghost use Rattle.planner.specs.Open.{open-refusals, IsFresh, IsOpened};
-ghost use Rattle.planner.specs.Calls.{IsAdd, IsRemove};
+ghost use Rattle.planner.specs.AddRemove.{offer, IsAdd, IsRemove};
 ghost use Rattle.planner.specs.Round.{IsRound};
-ghost use Rattle.planner.specs.Inner.{IsRoundAnswer, IsSoundStart};
+ghost use Rattle.planner.specs.Needs.{IsRoundAnswer, IsSoundStart};
+use basics::LAST_START;
+pub use opening::open;
 use queue::Queue;
-use table::Stream;
 use table::Table;
 
 mod offers;
+mod opening;
 mod removal;
 mod slots;
 mod soundness;
@@ -40,72 +40,9 @@ pub struct Rounded {
     pub n: u32,
 }
 
-// A planner with no stream.
-fn without_streams(slots: u32, frame: u32, gap: u32, last: u32) -> Planner
-    ensures { λ r. ⌜ IsFresh slots frame gap last r ⌝ }
-{
-    let none = Stream {
-        id: 0,
-        period: 0,
-        deadline: 0,
-        release: 0,
-    };
-    let streams = [none; 64];
-    let table = Table { count: 0, streams };
-    let queue = queue::empty();
-    Planner {
-        slots,
-        frame,
-        gap,
-        last,
-        table,
-        queue,
-    }
-}
-
-fn open_refusal(slots: u32, frame: u32, gap: u32, last: u32) -> u32
-    ensures { λ r. ⌜ r ≡ answer-of (open-refusals slots frame gap last) ⌝ }
-{
-    if slots < 1 {
-        return 1;
-    }
-    if 64 < slots {
-        return 1;
-    }
-    if frame < 1 {
-        return 2;
-    }
-    if 5040 < frame {
-        return 2;
-    }
-    if gap < 1 {
-        return 3;
-    }
-    if 255 < gap {
-        return 3;
-    }
-    if 1000000000 < last {
-        return 4;
-    }
-    0
-}
-
-// A refused opening gives the closed planner: every number 0, no stream, an empty queue.
-pub fn open(slots: u32, frame: u32, gap: u32, last: u32) -> Changed
-    ensures { λ r. ⌜ IsOpened slots frame gap last r ⌝ }
-{
-    let answer = open_refusal(slots, frame, gap, last);
-    if answer != 0 {
-        let planner = without_streams(0, 0, 0, 0);
-        return Changed { answer, planner };
-    }
-    let planner = without_streams(slots, frame, gap, last);
-    Changed { answer: 0, planner }
-}
-
 // Takes a stream in: its first packet is released at `start`.
 pub fn add(p: Planner, id: u32, start: u32, period: u32, deadline: u32) -> Changed
-    ensures { λ r. ⌜ IsAdd p id start period deadline r ⌝ }
+    ensures { λ r. ⌜ IsAdd p (offer id start period deadline) r ⌝ }
 {
     let answer = offers::add_refusal(p, id, start, period, deadline);
     if answer != 0 {
@@ -138,7 +75,7 @@ fn round_refusal_tested(p: Planner, start: u32, length: usize) -> u32
     if length < p.slots as usize {
         return 16;
     }
-    if 1000000000 < start {
+    if LAST_START < start {
         return 17;
     }
     0

@@ -1,29 +1,31 @@
 // A stream offered to a planner: whether it is refused, and the planner that takes it in.
 ghost use mathlib.Core.Path.{_≡_};
 ghost use Rattle.basics.specs.Refusals.{answer-of};
-ghost use Rattle.table.specs.Changes.{HasStreams};
+ghost use Rattle.table.specs.Changes.{HasRecords};
 ghost use Rattle.planner.specs.Content.{content};
 ghost use Rattle.planner.specs.Sound.{Sound};
-ghost use Rattle.planner.specs.Calls.{offer-refusals, rule-refusals, add-refusals, added, IsSoundWith};
-ghost use Rattle.planner.specs.Inner.{CanAdd, CanTest};
+ghost use Rattle.planner.specs.AddRemove.{offer, offer-refusals, rule-refusals, add-refusals, added, IsSoundWith};
+ghost use Rattle.planner.specs.Needs.{CanAdd, CanTest};
 use super::Planner;
 use super::soundness::sound_start;
-use table::Stream;
+use basics::LARGEST_ID;
+use basics::PLACES;
+use table::Record;
 use table::Table;
 
 // 6 to 11: what speaks of the stream alone. The start is compared with now before anything is added to it.
 fn offer_refusal_sound(p: Planner, id: u32, start: u32, period: u32, deadline: u32) -> u32
     requires { ⌜ Sound p ⌝ }
-    ensures { λ r. ⌜ r ≡ answer-of (offer-refusals (content p) id start period deadline) ⌝ }
+    ensures { λ r. ⌜ r ≡ answer-of (offer-refusals (content p) (offer id start period deadline)) ⌝ }
 {
-    if !table::is_one_to(id, 32767) {
+    if !table::is_one_to(id, LARGEST_ID) {
         return 6;
     }
     let table = p.table;
     if table::place_of_in_range(table, id) != table.count {
         return 7;
     }
-    if table.count == 64 {
+    if table.count == PLACES {
         return 8;
     }
     if !table::is_one_to(period, 240) {
@@ -46,10 +48,10 @@ fn offer_refusal_sound(p: Planner, id: u32, start: u32, period: u32, deadline: u
 
 // The table with the stream.
 fn table_with_sound(p: Planner, id: u32, start: u32, period: u32, deadline: u32) -> Table
-    requires { ⌜ CanTest p id start period deadline ⌝ }
-    ensures { λ r. ⌜ HasStreams (added (content p) id start period deadline .table) r ⌝ }
+    requires { ⌜ CanTest p (offer id start period deadline) ⌝ }
+    ensures { λ r. ⌜ HasRecords (added (content p) (offer id start period deadline) .table) r ⌝ }
 {
-    let stream = Stream {
+    let stream = Record {
         id,
         period,
         deadline,
@@ -61,8 +63,8 @@ fn table_with_sound(p: Planner, id: u32, start: u32, period: u32, deadline: u32)
 
 // 12 and 13: the two rules on the table with the stream.
 fn rule_refusal_sound(p: Planner, id: u32, start: u32, period: u32, deadline: u32) -> u32
-    requires { ⌜ CanTest p id start period deadline ⌝ }
-    ensures { λ r. ⌜ r ≡ answer-of (rule-refusals (added (content p) id start period deadline)) ⌝ }
+    requires { ⌜ CanTest p (offer id start period deadline) ⌝ }
+    ensures { λ r. ⌜ r ≡ answer-of (rule-refusals (added (content p) (offer id start period deadline))) ⌝ }
 {
     let table = table_with_sound(p, id, start, period, deadline);
     let busy = table::busy_length_in_range(table, p.slots, p.frame);
@@ -78,7 +80,7 @@ fn rule_refusal_sound(p: Planner, id: u32, start: u32, period: u32, deadline: u3
 }
 
 pub fn add_refusal(p: Planner, id: u32, start: u32, period: u32, deadline: u32) -> u32
-    ensures { λ r. ⌜ r ≡ answer-of (add-refusals p id start period deadline) ⌝ }
+    ensures { λ r. ⌜ r ≡ answer-of (add-refusals p (offer id start period deadline)) ⌝ }
 {
     if sound_start(p) == 0 {
         return 5;
@@ -92,18 +94,14 @@ pub fn add_refusal(p: Planner, id: u32, start: u32, period: u32, deadline: u32) 
 
 // The stream goes into the table by its id, and into the queue under its due time.
 pub fn add_sound(p: Planner, id: u32, start: u32, period: u32, deadline: u32) -> Planner
-    requires { ⌜ CanAdd p id start period deadline ⌝ }
-    ensures { λ r. ⌜ IsSoundWith (added (content p) id start period deadline) r ⌝ }
+    requires { ⌜ CanAdd p (offer id start period deadline) ⌝ }
+    ensures { λ r. ⌜ IsSoundWith (added (content p) (offer id start period deadline)) r ⌝ }
 {
     let table = table_with_sound(p, id, start, period, deadline);
     let filed = p.queue;
     let queue = queue::insert_sound(filed, id, start + deadline, start);
-    Planner {
-        slots: p.slots,
-        frame: p.frame,
-        gap: p.gap,
-        last: p.last,
-        table,
-        queue,
-    }
+    let mut after = p;
+    after.table = table;
+    after.queue = queue;
+    after
 }

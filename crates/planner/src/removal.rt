@@ -4,7 +4,7 @@ ghost use Rattle.basics.specs.Refusals.{answer-of};
 ghost use Rattle.table.specs.Changes.{HasId};
 ghost use Rattle.planner.specs.Content.{content};
 ghost use Rattle.planner.specs.Sound.{Sound};
-ghost use Rattle.planner.specs.Calls.{remove-refusals, removed, IsSoundWith};
+ghost use Rattle.planner.specs.AddRemove.{remove-refusals, removed, IsSoundWith};
 use super::Planner;
 use super::soundness::sound_start;
 
@@ -26,14 +26,12 @@ pub fn remove_sound(p: Planner, id: u32) -> Planner
     requires { ⌜ Sound p × HasId id (content p .table) ⌝ }
     ensures { λ r. ⌜ IsSoundWith (removed (content p) id) r ⌝ }
 {
-    let table = p.table;
-    let queue = p.queue;
-    Planner {
-        slots: p.slots,
-        frame: p.frame,
-        gap: p.gap,
-        last: p.last,
-        table: table::take_out_in_range(table, id),
-        queue: queue::delete_sound(queue, id),
-    }
+    let before = p.table;
+    let filed = p.queue;
+    let table = table::take_out_in_range(before, id);
+    let queue = queue::delete_sound(filed, id);
+    let mut after = p;
+    after.table = table;
+    after.queue = queue;
+    after
 }

@@ -4,15 +4,14 @@ ghost use mathlib.Core.List.{_++_};
 ghost use Prim.Native.Nat.{_≤_};
 ghost use lib.ListN.{length, take, drop};
 ghost use Rattle.planner.specs.Content.{content};
-ghost use Rattle.planner.specs.Calls.{IsSoundWith};
+ghost use Rattle.planner.specs.AddRemove.{IsSoundWith};
 ghost use Rattle.planner.specs.Round.{rounded};
-ghost use Rattle.planner.specs.Inner.{CanChoose, CanServeAll, IsChosen, AreFound};
-ghost use Rattle.planner.specs.ServingFacts.{served-planner};
+ghost use Rattle.planner.specs.Needs.{CanChoose, CanServeAll, IsChosen, AreFound, served-planner};
 use super::Planner;
 use basics::wide;
+use queue::Placed;
 use queue::Queue;
-use queue::move_at_sound;
-use table::Stream;
+use table::Record;
 use table::Table;
 
 // The ids chosen for a round, in the first n places, and beside each its stream's row in the table and its place in the queue.
@@ -43,8 +42,7 @@ pub fn choose_sound(p: Planner, start: u32) -> Chosen
     let queue = p.queue;
     let table = p.table;
     let streams = table.streams;
-    let slots = p.slots as usize;
-    let order = queue::places_in_order_sound(queue, table.count);
+    let order = queue::in_order_sound(queue, table.count);
     let ids = table::ids_in_range(table);
     let mut chosen = Chosen {
         ids: [0u16; 64],
@@ -55,11 +53,11 @@ pub fn choose_sound(p: Planner, start: u32) -> Chosen
     let mut i: usize = 0;
     while i < table.count {
         let n = chosen.n;
-        if n == slots {
+        if n == p.slots as usize {
             return chosen;
         }
-        let place = order[i];
-        let id = queue.ids[place];
+        let id = order.ids[i];
+        let place = order.places[i];
         let row = basics::place_among_rising(&ids, wide(id));
         let stream = streams[row];
         if stream.release <= start {
@@ -74,7 +72,7 @@ pub fn choose_sound(p: Planner, start: u32) -> Chosen
 }
 
 // The planner with a round held at start, which left these streams and this queue.
-fn after_round(p: Planner, start: u32, streams: [Stream; 64], queue: Queue) -> Planner
+fn after_round(p: Planner, start: u32, streams: [Record; 64], queue: Queue) -> Planner
     ensures { λ r. ⌜ r ≡ served-planner p start streams queue ⌝ }
 {
     let before = p.table;
@@ -95,37 +93,21 @@ pub fn serve_sound(p: Planner, chosen: Chosen, start: u32) -> Planner
     ensures { λ r. ⌜ IsSoundWith (rounded (content p) start) r ⌝ }
 {
     let before = p.table;
-    let filed = p.queue;
     let mut streams = before.streams;
-    let mut ids = filed.ids;
-    let mut keys = filed.keys;
-    let mut releases = filed.releases;
-    let mut next = filed.next;
-    let mut prev = filed.prev;
+    let mut periods = [0u32; 64];
     let mut k: usize = 0;
     while k < chosen.n {
         let row = chosen.rows[k];
-        let place = chosen.places[k];
         let stream = streams[row];
-        let period = stream.period;
+        periods[k] = stream.period;
         streams[row] = table::at_next_packet_in_range(stream);
-        move_at_sound(
-            &mut ids,
-            &mut keys,
-            &mut releases,
-            &mut next,
-            &mut prev,
-            place,
-            period,
-        );
         k += 1;
     }
-    let queue = Queue {
-        ids,
-        keys,
-        releases,
-        next,
-        prev,
+    let filed = p.queue;
+    let served = Placed {
+        ids: chosen.ids,
+        places: chosen.places,
     };
+    let queue = queue::move_all_sound(filed, served, periods, chosen.n);
     after_round(p, start, streams, queue)
 }

@@ -1,8 +1,8 @@
 // Whether a planner is sound, and its next start if it is.
 ghost use Rattle.basics.specs.Decides.{Decides};
-ghost use Rattle.planner.specs.Inner.{CanCompare, IsFiled, IsSoundStart};
+ghost use Rattle.planner.specs.Needs.{CanCompare, IsFiled, IsSoundStart};
 use super::Planner;
-use super::open_refusal;
+use super::opening::open_refusal;
 use queue::Queue;
 use table::Column;
 use table::Table;

@@ -1,7 +1,7 @@
 -- `planner::add` meets its contract: refused, it hands the planner back; else the planner holds the stream too.
 use mathlib.Core.Path.{sym, _∙_}
-use Rattle.planner.specs.ChangeFacts.{change-refused, change-done}
-use Rattle.planner.specs.AddFacts.{can-add}
+use Rattle.planner.specs.Facts.Changes.{change-refused, change-done}
+use Rattle.planner.specs.Facts.Add.{can-add}
 use borrow.Author.Needs.{needs}
 use Rattle.planner.proofs.add.Statement.{statement}
 use Rattle.planner.proofs.add.Tie as tie
@@ -10,13 +10,13 @@ add-refusal-requires : tie.Need-add-refusal-requires
 add-refusal-requires c κs = search needs
 
 returns : tie.Need-returns
-returns c = change-refused _ _ _ (c .before .add-refusal .result) (c .before .add-refusal .ensures) (c .if1 .taken)
+returns c = change-refused (c .before .add-refusal .ensures) (c .if1 .taken)
 
 add-sound-requires : tie.Need-add-sound-requires
-add-sound-requires c κs = can-add (c .before .before .args .p) _ _ _ _ (sym (c .before .add-refusal .ensures) ∙ c .if1 .left)
+add-sound-requires c κs = can-add (c .before .before .args .p) _ (sym (c .before .add-refusal .ensures) ∙ c .if1 .left)
 
 returns-2 : tie.Need-returns-2
-returns-2 c = change-done _ _ _ (c .before .before .add-refusal .result) (c .before .before .add-refusal .ensures) (c .before .if1 .left) (c .add-sound .result) (c .add-sound .ensures)
+returns-2 c = change-done (c .before .before .add-refusal .ensures) (c .before .if1 .left) (c .add-sound .ensures)
 
 pub add-spec : {M : Type 1} → statement M
 add-spec = tie.close (tie.spec add-refusal-requires returns add-sound-requires returns-2)

@@ -1,11 +1,13 @@
 -- `planner::offers::add_refusal` meets its contract: 5, then the answer of 6 to 11 where it is not 0, then that of 12 and 13.
 use mathlib.Core.Path.{sym, _∙_}
 use native.Mathlib.Omega.{arith}
-use Rattle.basics.specs.Refusals.{here, first-is-answer}
+use Rattle.basics.specs.Facts.Refusals.{first-is-answer}
+use Rattle.basics.specs.Refusals.{here}
 use Rattle.planner.specs.Content.{content}
 use Rattle.planner.specs.Sound.{Sound}
-use Rattle.planner.specs.Inner.{CanTest}
-use Rattle.planner.specs.AddFacts.{offer-passed, by-offer, by-rules}
+use Rattle.planner.specs.AddRemove.{offer}
+use Rattle.planner.specs.Needs.{CanTest}
+use Rattle.planner.specs.Facts.Add.{offer-passed, by-offer, by-rules}
 use borrow.Author.Needs.{needs}
 use Rattle.planner.proofs.offers.add_refusal.Statement.{statement}
 use Rattle.planner.proofs.offers.add_refusal.Tie as tie
@@ -23,16 +25,22 @@ offer-refusal-sound-requires : tie.Need-offer-refusal-sound-requires
 offer-refusal-sound-requires c κs = sound c
 
 returns-2 : tie.Need-returns-2
-returns-2 c = c .before .offer-refusal-sound .ensures ∙ by-offer (c .before .before .before .before .args .p) _ _ _ _ (sound (c .before .before)) (λ zero. (c .if2 .taken) (c .before .offer-refusal-sound .ensures ∙ zero))
+returns-2 c =
+    c .before .offer-refusal-sound .ensures
+    ∙ by-offer (c .before .before .before .before .args .p) _ (sound (c .before .before)) (λ zero. (c .if2 .taken) (c .before .offer-refusal-sound .ensures ∙ zero))
 
-can-test : (c : tie.Else2) → CanTest (c .before .before .before .before .args .p) (c .before .before .before .before .args .id) (c .before .before .before .before .args .start) (c .before .before .before .before .args .period) (c .before .before .before .before .args .deadline)
-can-test c = record { sound = sound (c .before .before); offer = offer-passed (content (c .before .before .before .before .args .p)) _ _ _ _ (sym (c .before .offer-refusal-sound .ensures) ∙ c .if2 .left) }
+can-test : (c : tie.Else2) → let a = c .before .before .before .before .args in CanTest (a .p) (offer (a .id) (a .start) (a .period) (a .deadline))
+can-test c =
+    record {
+      sound = sound (c .before .before);
+      formed = offer-passed (content (c .before .before .before .before .args .p)) _ (sym (c .before .offer-refusal-sound .ensures) ∙ c .if2 .left);
+    }
 
 rule-refusal-sound-requires : tie.Need-rule-refusal-sound-requires
 rule-refusal-sound-requires c κs = can-test c
 
 returns-3 : tie.Need-returns-3
-returns-3 c = c .rule-refusal-sound .ensures ∙ by-rules (c .before .before .before .before .before .args .p) _ _ _ _ (can-test (c .before))
+returns-3 c = c .rule-refusal-sound .ensures ∙ by-rules (c .before .before .before .before .before .args .p) _ (can-test (c .before))
 
 pub add-refusal-spec : {M : Type 1} → statement M
 add-refusal-spec =

@@ -1,5 +1,5 @@
 -- `planner::offers::add_sound` meets its contract: the table has the stream at its place, and the queue its entry.
-use Rattle.planner.specs.AddFacts.{can-file, taken-in}
+use Rattle.planner.specs.Facts.Add.{can-file, taken-in}
 use borrow.Author.Needs.{needs}
 use Rattle.planner.proofs.offers.add_sound.Statement.{statement}
 use Rattle.planner.proofs.offers.add_sound.Tie as tie

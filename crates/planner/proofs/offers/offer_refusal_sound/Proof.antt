@@ -1,20 +1,49 @@
 -- `planner::offers::offer_refusal_sound` meets its contract: each test is for one refusal of the list, in its order.
--- What a test has shown stands as a lemma of the place behind it.
-use Prim.Native.Nat.{_≤_, _∣_}
+-- Behind a test its refusal does not apply, so what the later ones answer is the answer: that is a lemma of each such place.
+use mathlib.Core.Path.{_≡_}
+use mathlib.Core.List.{List, _∷_}
+use Prim.Native.Nat.{ℕ}
 use native.Mathlib.Nat.{dvd-of-mod-eq-zero, mod-eq-zero-of-dvd}
 use native.Mathlib.Omega.{arith}
 use lib.ListN.{length}
-use Rattle.basics.specs.Decides.{failed, passed}
-use Rattle.basics.specs.Refusals.{none, here, later, first-is-answer}
+use Rattle.basics.specs.Facts.Decides.{failed, passed}
+use Rattle.basics.specs.Refusals.{Refusal, FirstOf, none, here, later}
+use Rattle.basics.specs.Facts.Refusals.{first-is-answer}
 use Rattle.table.specs.RangeTests.{OneTo}
-use Rattle.table.specs.Changes.{HasId}
-use Rattle.table.specs.ChangeFacts.{held-by-place}
+use Rattle.table.specs.Facts.Changes.{held-by-place}
 use Rattle.planner.specs.Content.{content}
-use Rattle.planner.specs.AddFacts.{is-full, has-room, too-early, too-late, near-now}
+use Rattle.planner.specs.AddRemove.{bad-id, id-held, full, bad-period, bad-deadline}
+use Rattle.planner.specs.Facts.Add.{is-full, has-room, too-early, too-late, near-now}
 use Rattle.planner.proofs.Shape.{planner-shape}
 use borrow.Author.Needs.{needs}
 use Rattle.planner.proofs.offers.offer_refusal_sound.Statement.{statement}
 use Rattle.planner.proofs.offers.offer_refusal_sound.Tie as tie
+
+-- the call, seen from behind each test
+abbrev call-1 : tie.Else1 → tie.Start
+call-1 c = c .before .before
+
+abbrev call-2 : tie.Else2 → tie.Start
+call-2 c = call-1 (c .before .before .before .before)
+
+abbrev call-3 : tie.Else3 → tie.Start
+call-3 c = call-2 (c .before .before)
+
+abbrev call-4 : tie.Else4 → tie.Start
+call-4 c = call-3 (c .before .before)
+
+abbrev call-5 : tie.Else5 → tie.Start
+call-5 c = call-4 (c .before .before)
+
+abbrev call-6 : tie.Else6 → tie.Start
+call-6 c = call-5 (c .before .before)
+
+abbrev call-7 : tie.Else7 → tie.Start
+call-7 c = call-6 (c .before .before)
+
+-- the table has 64 places, as its type says
+long : (start : tie.Start) → length (start .args .p .table .streams) ≡ 64
+long start = planner-shape (start .args .p) _ (start .good .0)
 
 is-one-to-requires : tie.Need-is-one-to-requires
 is-one-to-requires c κs = search needs
@@ -22,62 +51,87 @@ is-one-to-requires c κs = search needs
 returns : tie.Need-returns
 returns c = first-is-answer (here (failed (c .before .is-one-to .ensures) (c .if1 .taken)))
 
-id-in : (c : tie.Else1) → OneTo 32767 (c .before .before .args .id)
-id-in c = passed (c .before .is-one-to .ensures) (c .if1 .left)
+-- no earlier refusal applies: past the test of the id, and so on below
+past-id : (c : tie.Else1) {rs : List Refusal} {n : ℕ} → FirstOf rs n → FirstOf (bad-id (call-1 c .args .id) ∷ rs) n
+past-id c rest = later {r = bad-id _} (λ bad. bad (passed (c .before .is-one-to .ensures) (c .if1 .left))) rest
 
 place-of-in-range-requires : tie.Need-place-of-in-range-requires
 place-of-in-range-requires c κs = search needs
 
 returns-2 : tie.Need-returns-2
-returns-2 c = first-is-answer (later (λ bad. bad (id-in (c .before .before .before .before))) (here (held-by-place _ _ _ (c .before .before .place-of-in-range .ensures) (c .if2 .taken))))
+returns-2 c =
+    let found = c .before .before in
+    first-is-answer (past-id (found .before .before) (here (held-by-place _ _ _ (found .place-of-in-range .ensures) (c .if2 .taken))))
 
-new : (c : tie.Else2) → HasId (c .before .before .before .before .before .before .args .id) (content (c .before .before .before .before .before .before .args .p) .table) → ⊥
-new c = c .before .before .place-of-in-range .ensures .absent (c .if2 .left)
+past-held : (c : tie.Else2) {rs : List Refusal} {n : ℕ} → FirstOf rs n → let a = call-2 c .args in
+    FirstOf (bad-id (a .id) ∷ id-held (a .id) (content (a .p)) ∷ rs) n
+past-held c rest =
+    let found = c .before .before in
+    past-id (found .before .before) (later (found .place-of-in-range .ensures .absent (c .if2 .left)) rest)
 
 returns-3 : tie.Need-returns-3
-returns-3 c = first-is-answer (later (λ bad. bad (id-in (c .before .before .before .before .before .before))) (later (new (c .before .before)) (here (is-full (c .before .before .before .before .before .before .before .before .pre) (planner-shape (c .before .before .before .before .before .before .before .before .args .p) _ (c .before .before .before .before .before .before .before .before .good .0)) (c .if3 .taken)))))
+returns-3 c =
+    let new = c .before .before in
+    first-is-answer (past-held new (here (is-full (call-2 new .pre) (long (call-2 new)) (c .if3 .taken))))
 
-not-full : (c : tie.Else3) → 64 ≤ length (content (c .before .before .before .before .before .before .before .before .args .p) .table) → ⊥
-not-full c = has-room (c .before .before .before .before .before .before .before .before .pre) (planner-shape (c .before .before .before .before .before .before .before .before .args .p) _ (c .before .before .before .before .before .before .before .before .good .0)) (c .if3 .left)
+past-full : (c : tie.Else3) {rs : List Refusal} {n : ℕ} → FirstOf rs n → let a = call-3 c .args in
+    FirstOf (bad-id (a .id) ∷ id-held (a .id) (content (a .p)) ∷ full (content (a .p)) ∷ rs) n
+past-full c rest = past-held (c .before .before) (later (has-room (call-3 c .pre) (long (call-3 c)) (c .if3 .left)) rest)
 
 is-one-to-requires-2 : tie.Need-is-one-to-requires-2
 is-one-to-requires-2 c κs = search needs
 
 returns-4 : tie.Need-returns-4
-returns-4 c = first-is-answer (later (λ bad. bad (id-in (c .before .before .before .before .before .before .before .before))) (later (new (c .before .before .before .before)) (later (not-full (c .before .before)) (here (λ fine. failed (c .before .is-one-to2 .ensures) (c .if4 .taken) (fine .0))))))
+returns-4 c =
+    first-is-answer (past-full (c .before .before) (here (λ fine. failed (c .before .is-one-to2 .ensures) (c .if4 .taken) (fine .0))))
 
-some-period : (c : tie.Else4) → OneTo 240 (c .before .before .before .before .before .before .before .before .before .before .args .period)
+some-period : (c : tie.Else4) → OneTo 240 (call-4 c .args .period)
 some-period c = passed (c .before .is-one-to2 .ensures) (c .if4 .left)
 
 rem-if5 : tie.Need-rem-if5
 rem-if5 c = some-period (c .before) .0
 
 returns-5 : tie.Need-returns-5
-returns-5 c = first-is-answer (later (λ bad. bad (id-in (c .before .before .before .before .before .before .before .before .before .before))) (later (new (c .before .before .before .before .before .before)) (later (not-full (c .before .before .before .before)) (here (λ fine. c .if5 .taken (mod-eq-zero-of-dvd _ (fine .1)))))))
+returns-5 c =
+    let some = c .before .before in
+    first-is-answer (past-full (some .before .before) (here (λ fine. c .if5 .taken (mod-eq-zero-of-dvd _ (fine .1)))))
 
-period-in : (c : tie.Else5) → OneTo 240 (c .before .before .before .before .before .before .before .before .before .before .before .before .args .period) × (c .before .before .before .before .before .before .before .before .before .before .before .before .args .period ∣ c .before .before .before .before .before .before .before .before .before .before .before .before .args .p .frame)
-period-in c = (some-period (c .before .before), dvd-of-mod-eq-zero _ (c .if5 .left))
+past-period : (c : tie.Else5) {rs : List Refusal} {n : ℕ} → FirstOf rs n → let a = call-5 c .args in
+    let h = content (a .p) in
+    FirstOf (bad-id (a .id) ∷ id-held (a .id) h ∷ full h ∷ bad-period (a .period) h ∷ rs) n
+past-period c rest =
+    let some = c .before .before in
+    past-full (some .before .before) (later (λ bad. bad (some-period some, dvd-of-mod-eq-zero _ (c .if5 .left))) rest)
 
 is-one-to-requires-3 : tie.Need-is-one-to-requires-3
 is-one-to-requires-3 c κs = search needs
 
 returns-6 : tie.Need-returns-6
-returns-6 c = first-is-answer (later (λ bad. bad (id-in (c .before .before .before .before .before .before .before .before .before .before .before .before))) (later (new (c .before .before .before .before .before .before .before .before)) (later (not-full (c .before .before .before .before .before .before)) (later (λ bad. bad (period-in (c .before .before))) (here (failed (c .before .is-one-to3 .ensures) (c .if6 .taken)))))))
+returns-6 c = first-is-answer (past-period (c .before .before) (here (failed (c .before .is-one-to3 .ensures) (c .if6 .taken))))
 
-deadline-in : (c : tie.Else6) → OneTo (c .before .before .before .before .before .before .before .before .before .before .before .before .before .before .args .period) (c .before .before .before .before .before .before .before .before .before .before .before .before .before .before .args .deadline)
-deadline-in c = passed (c .before .is-one-to3 .ensures) (c .if6 .left)
+past-deadline : (c : tie.Else6) {rs : List Refusal} {n : ℕ} → FirstOf rs n → let a = call-6 c .args in
+    let h = content (a .p) in
+    FirstOf (bad-id (a .id) ∷ id-held (a .id) h ∷ full h ∷ bad-period (a .period) h ∷ bad-deadline (a .deadline) (a .period) ∷ rs) n
+past-deadline c rest = past-period (c .before .before) (later (λ bad. bad (passed (c .before .is-one-to3 .ensures) (c .if6 .left))) rest)
 
 returns-7 : tie.Need-returns-7
-returns-7 c = first-is-answer (later (λ bad. bad (id-in (c .before .before .before .before .before .before .before .before .before .before .before .before .before .before))) (later (new (c .before .before .before .before .before .before .before .before .before .before)) (later (not-full (c .before .before .before .before .before .before .before .before)) (later (λ bad. bad (period-in (c .before .before .before .before))) (later (λ bad. bad (deadline-in (c .before .before))) (here (too-early (content (c .before .before .before .before .before .before .before .before .before .before .before .before .before .before .before .before .args .p)) _ (c .if7 .taken))))))))
+returns-7 c =
+    let formed = c .before .before in
+    first-is-answer (past-deadline formed (here (too-early (content (call-6 formed .args .p)) _ (c .if7 .taken))))
 
 add-if8 : tie.Need-add-if8
-add-if8 c = omega (arith, c .before .before .before .before .before .before .before .before .before .before .before .before .before .before .before .before .before .pre .content-sound .in-range .last)
+add-if8 c = omega (arith, call-7 (c .before) .pre .content-sound .in-range .last)
 
 returns-8 : tie.Need-returns-8
-returns-8 c = first-is-answer (later (λ bad. bad (id-in (c .before .before .before .before .before .before .before .before .before .before .before .before .before .before .before .before))) (later (new (c .before .before .before .before .before .before .before .before .before .before .before .before)) (later (not-full (c .before .before .before .before .before .before .before .before .before .before)) (later (λ bad. bad (period-in (c .before .before .before .before .before .before))) (later (λ bad. bad (deadline-in (c .before .before .before .before))) (here (too-late (content (c .before .before .before .before .before .before .before .before .before .before .before .before .before .before .before .before .before .before .args .p)) _ (c .if8 .taken))))))))
+returns-8 c =
+    let after = c .before .before in
+    first-is-answer (past-deadline (after .before .before) (here (too-late (content (call-7 after .args .p)) _ (c .if8 .taken))))
 
 returns-9 : tie.Need-returns-9
-returns-9 c = first-is-answer (later (λ bad. bad (id-in (c .before .before .before .before .before .before .before .before .before .before .before .before .before .before .before .before))) (later (new (c .before .before .before .before .before .before .before .before .before .before .before .before)) (later (not-full (c .before .before .before .before .before .before .before .before .before .before)) (later (λ bad. bad (period-in (c .before .before .before .before .before .before))) (later (λ bad. bad (deadline-in (c .before .before .before .before))) (later (λ bad. bad (near-now (content (c .before .before .before .before .before .before .before .before .before .before .before .before .before .before .before .before .before .before .args .p)) _ (c .before .before .if7 .left) (c .if8 .left))) none))))))
+returns-9 c =
+    let after = c .before .before in
+    let near = near-now (content (call-7 after .args .p)) _ (after .if7 .left) (c .if8 .left) in
+    first-is-answer (past-deadline (after .before .before) (later (λ bad. bad near) none))
 
 pub offer-refusal-sound-spec : {M : Type 1} → statement M
 offer-refusal-sound-spec =

@@ -1,11 +1,12 @@
 -- `planner::offers::rule_refusal_sound` meets its contract: each rule is tested on the table with the stream, which is what the planner would hold.
 use native.Mathlib.Omega.{arith}
-use Rattle.basics.specs.Refusals.{none, here, later, first-is-answer}
+use Rattle.basics.specs.Facts.Refusals.{first-is-answer}
+use Rattle.basics.specs.Refusals.{none, here, later}
 use Rattle.rules.specs.Demand.{DemandRule}
 use Rattle.table.specs.Lengths.{IsNextStart}
-use Rattle.planner.specs.Content.{content, now-of}
-use Rattle.planner.specs.Calls.{added}
-use Rattle.planner.specs.AddFacts.{can-test-table, can-find-table, busy-of-added, start-of-added}
+use Rattle.planner.specs.Content.{content, now-of, slots-of, streams-in}
+use Rattle.planner.specs.AddRemove.{offer, added}
+use Rattle.planner.specs.Facts.Add.{can-test-table, can-find-table, busy-of-added, start-of-added}
 use borrow.Author.Needs.{needs}
 use Rattle.planner.proofs.offers.rule_refusal_sound.Statement.{statement}
 use Rattle.planner.proofs.offers.rule_refusal_sound.Tie as tie
@@ -17,11 +18,16 @@ busy-length-in-range-requires : tie.Need-busy-length-in-range-requires
 busy-length-in-range-requires c κs = can-test-table (c .before .pre) (c .table-with-sound .ensures)
 
 returns : tie.Need-returns
-returns c = first-is-answer (here (busy-of-added (c .before .before .before .pre) (c .before .before .table-with-sound .ensures) (c .before .busy-length-in-range .ensures) .fails (c .if1 .taken)))
+returns c =
+    let begun = c .before .before in
+    first-is-answer (here (busy-of-added (begun .before .pre) (begun .table-with-sound .ensures) (c .before .busy-length-in-range .ensures) .fails (c .if1 .taken)))
 
 -- with a busy length the demand rule holds
-demand-kept : (c : tie.Else1) → let a = c .before .before .before .args in DemandRule (a .p .slots) (added (content (a .p)) (a .id) (a .start) (a .period) (a .deadline) .table)
-demand-kept c = busy-of-added (c .before .before .before .pre) (c .before .before .table-with-sound .ensures) (c .before .busy-length-in-range .ensures) .holds (omega (arith, c .if1 .left))
+demand-kept : (c : tie.Else1) → let a = c .before .before .before .args in
+    let h = added (content (a .p)) (offer (a .id) (a .start) (a .period) (a .deadline)) in DemandRule (slots-of h) (streams-in h)
+demand-kept c =
+    let begun = c .before .before in
+    busy-of-added (begun .before .pre) (begun .table-with-sound .ensures) (c .before .busy-length-in-range .ensures) .holds (omega (arith, c .if1 .left))
 
 add-now : tie.Need-add-now
 add-now c = search needs
@@ -33,8 +39,11 @@ next-start-in-range-requires c κs =
 
 -- the start looked for is one of what the planner would hold
 start-answered : (c : tie.After-next-start-in-range) → let a = c .before .before .before .before .before .args in
-    let q = added (content (a .p)) (a .id) (a .start) (a .period) (a .deadline) in IsNextStart (q .slots) (now-of q) (now-of q) (q .table) (c .next-start-in-range .result)
-start-answered c = let begun = c .before .before .before .before in start-of-added (begun .before .pre) (begun .table-with-sound .ensures) (c .next-start-in-range .ensures)
+    let h = added (content (a .p)) (offer (a .id) (a .start) (a .period) (a .deadline)) in
+    IsNextStart (slots-of h) (now-of h) (now-of h) (streams-in h) (c .next-start-in-range .result)
+start-answered c =
+    let begun = c .before .before .before .before in
+    start-of-added (begun .before .pre) (begun .table-with-sound .ensures) (c .next-start-in-range .ensures)
 
 returns-2 : tie.Need-returns-2
 returns-2 c = first-is-answer (later (λ bad. bad (demand-kept (c .before .before .before))) (here (start-answered (c .before) .fails (c .if2 .taken))))

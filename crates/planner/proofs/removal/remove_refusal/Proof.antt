@@ -1,7 +1,9 @@
 -- `planner::removal::remove_refusal` meets its contract: the tests are the refusals of remove, in their order.
 use native.Mathlib.Omega.{arith}
-use Rattle.basics.specs.Refusals.{first-is-answer, none, here, later}
-use Rattle.table.specs.ChangeFacts.{held-by-place}
+use Rattle.basics.specs.Facts.Refusals.{first-is-answer}
+use Rattle.basics.specs.Refusals.{none, here, later}
+use Rattle.table.specs.Facts.Changes.{held-by-place}
+use Rattle.planner.specs.Sound.{Sound}
 use borrow.Author.Needs.{needs}
 use Rattle.planner.proofs.removal.remove_refusal.Statement.{statement}
 use Rattle.planner.proofs.removal.remove_refusal.Tie as tie
@@ -12,14 +14,23 @@ sound-start-requires c κs = search needs
 returns : tie.Need-returns
 returns c = first-is-answer (here (c .before .sound-start .ensures .unsound (c .if1 .taken)))
 
+-- past the first test the planner is sound
+sound : (c : tie.Else1) → Sound (c .before .before .args .p)
+sound c = c .before .sound-start .ensures .sound (omega (arith, c .if1 .left))
+
 place-of-in-range-requires : tie.Need-place-of-in-range-requires
-place-of-in-range-requires c κs = c .before .before .sound-start .ensures .sound (omega (arith, c .before .if1 .left)) .count
+place-of-in-range-requires c κs = sound (c .before) .count
 
 returns-2 : tie.Need-returns-2
-returns-2 c = first-is-answer (later (λ unsound. unsound (c .before .before .before .before .before .sound-start .ensures .sound (omega (arith, c .before .before .before .before .if1 .left)))) (here (c .before .before .place-of-in-range .ensures .absent (c .if2 .taken))))
+returns-2 c =
+    let found = c .before .before in
+    first-is-answer (later (λ unsound. unsound (sound (found .before .before))) (here (found .place-of-in-range .ensures .absent (c .if2 .taken))))
 
 returns-3 : tie.Need-returns-3
-returns-3 c = first-is-answer (later (λ unsound. unsound (c .before .before .before .before .before .sound-start .ensures .sound (omega (arith, c .before .before .before .before .if1 .left)))) (later (λ absent. absent (held-by-place _ _ _ (c .before .before .place-of-in-range .ensures) (c .if2 .left))) none))
+returns-3 c =
+    let found = c .before .before in
+    let held = held-by-place _ _ _ (found .place-of-in-range .ensures) (c .if2 .left) in
+    first-is-answer (later (λ unsound. unsound (sound (found .before .before))) (later (λ absent. absent held) none))
 
 pub remove-refusal-spec : {M : Type 1} → statement M
 remove-refusal-spec =

@@ -1,52 +1,81 @@
--- `planner::slots::choose_sound` meets its contract: after i entries the released ones among them have been taken; full, or with all entries met, they are the slots.
-use mathlib.Core.Path.{subst, subst⁻¹}
+-- `planner::slots::choose_sound` meets its contract: after i entries the released ones among them have been taken,
+-- each beside its row and its place.
+use mathlib.Core.Path.{_≡_, subst, subst⁻¹}
 use mathlib.Core.Logic.{⊎-elim}
-use Prim.Native.Nat.{ℕ, _+_, _-_}
+use Prim.Native.Nat.{ℕ, _+_, _-_, _<_}
 use native.Mathlib.Omega.{arith}
+use lib.ListN.{length}
 use Rattle.basics.specs.Places.{IsPlaceAmong}
-use Rattle.planner.specs.ChooseFacts.{Visited, can-walk, can-search, none-visited, full-chosen, all-chosen, still-room, place-below, one-more-taken-in, one-more-skipped-in}
+use Rattle.planner.specs.Facts.Choosing.{Visited, can-walk, can-search, none-visited, full-chosen, all-chosen, still-room, one-more-taken-in, one-more-skipped-in}
 use Rattle.planner.proofs.Shape.{planner-shape}
 use Rattle.planner.proofs.slots.choose_sound.Statement.{statement}
 use Rattle.planner.proofs.slots.choose_sound.Tie as tie
 
 abbrev Inv-loop : tie.InvT-loop
-Inv-loop start queue table streams slots order ids chosen₀ i₀ chosen i = Visited queue table slots start i chosen
+Inv-loop p start table streams order ids chosen₀ i₀ chosen i = Visited (p .queue) table (p .slots) start i chosen
 
 abbrev μ-loop : tie.MeasureT-loop
-μ-loop start queue table streams slots order ids chosen₀ i₀ chosen i = table .count - i
+μ-loop p start table streams order ids chosen₀ i₀ chosen i = table .count - i
 
-cast-slots : tie.Need-cast-slots Inv-loop μ-loop
-cast-slots c = omega (arith, c .before .before .before .before .pre .sound .content-sound .in-range .slots)
+long : (c : tie.Start Inv-loop μ-loop) → length (c .args .p .table .streams) ≡ 64
+long c = planner-shape (c .args .p) _ (c .good .0)
 
-places-in-order-sound-requires : tie.Need-places-in-order-sound-requires Inv-loop μ-loop
-places-in-order-sound-requires c κs = can-walk (c .before .before .before .before .args .p) (c .before .before .before .before .args .start) (c .before .before .before .before .pre) (planner-shape (c .before .before .before .before .args .p) _ (c .before .before .before .before .good .0))
+-- the call in whose loop we are
+abbrev from : tie.At-loop Inv-loop μ-loop → tie.Start Inv-loop μ-loop
+from c = c .before .before .before .before .before .before
+
+in-order-sound-requires : tie.Need-in-order-sound-requires Inv-loop μ-loop
+in-order-sound-requires c κs =
+    let start = c .before .before .before in
+    can-walk (start .pre) (long start)
 
 ids-in-range-requires : tie.Need-ids-in-range-requires Inv-loop μ-loop
-ids-in-range-requires c κs = c .before .before .before .before .before .pre .sound .count
+ids-in-range-requires c κs = c .before .before .before .before .pre .sound .count
 
 loop-holds : tie.Need-loop-holds Inv-loop μ-loop
-loop-holds c = none-visited (c .before .before .before .before .before .before .args .p) (c .before .before .before .before .before .before .args .start) (c .before .before .before .before .before .before .pre) (planner-shape (c .before .before .before .before .before .before .args .p) _ (c .before .before .before .before .before .before .good .0))
+loop-holds c =
+    let start = c .before .before .before .before .before in
+    none-visited (start .pre) (long start)
+
+cast-if2 : tie.Need-cast-if2 Inv-loop μ-loop
+cast-if2 c = omega (arith, from (c .before .before .before) .pre .sound .content-sound .in-range .slots)
 
 returns : tie.Need-returns Inv-loop μ-loop
-returns c = full-chosen (c .before .before .before .before .before .before .before .before .before .before .args .p) (c .before .before .before .before .before .before .before .before .before .before .args .start) (c .before .before .before .before .before .before .before .before .before .before .pre) (planner-shape (c .before .before .before .before .before .before .before .before .before .before .args .p) _ (c .before .before .before .before .before .before .before .before .before .before .good .0)) (c .before .before .before .loop .i) (c .before .before .before .loop .chosen) (c .before .before .before .loop .inv) (c .if2 .taken)
+returns c =
+    let at = c .before .before .before .before in
+    let start = from at in
+    full-chosen (start .pre) (long start) (at .loop .inv) (c .if2 .taken)
 
-mul-place : tie.Need-mul-place Inv-loop μ-loop
-mul-place c = omega (arith, c .before .if1 .taken, c .before .before .before .before .before .before .before .before .before .before .pre .sound .count)
+-- in a turn that goes on, an entry is left and a slot is free
+inside : (c : tie.Else2 Inv-loop μ-loop) → c .before .before .before .before .loop .i < 64
+inside c = omega (arith, c .before .before .if1 .taken, from (c .before .before .before .before) .pre .sound .count)
 
-array-read-place : tie.Need-array-read-place Inv-loop μ-loop
-array-read-place c = omega (arith, c .before .if1 .taken, c .before .before .before .before .before .before .before .before .before .before .pre .sound .count)
+room : (c : tie.Else2 Inv-loop μ-loop) → c .before .before .before .before .loop .chosen .n < 64
+room c =
+    let at = c .before .before .before .before in
+    let start = from at in
+    still-room (start .pre) (long start) (at .loop .inv) (c .if2 .left)
 
 mul-id : tie.Need-mul-id Inv-loop μ-loop
-mul-id c = omega (arith, place-below (c .before .before .before .before .before .before .before .before .before .before .args .p) (c .before .before .before .before .before .before .before .before .before .before .args .start) (c .before .before .before .before .before .before .before .before .before .before .pre) (planner-shape (c .before .before .before .before .before .before .before .before .before .before .args .p) _ (c .before .before .before .before .before .before .before .before .before .before .good .0)) (c .before .before .before .loop .i) (c .before .before .before .loop .chosen) (c .before .before .before .loop .inv) (c .before .if1 .taken) (c .before .before .before .before .before .places-in-order-sound .result) (c .before .before .before .before .before .places-in-order-sound .ensures))
+mul-id c = omega (arith, inside c)
 
 element-copy-out-id : tie.Need-element-copy-out-id Inv-loop μ-loop
-element-copy-out-id c = place-below (c .before .before .before .before .before .before .before .before .before .before .args .p) (c .before .before .before .before .before .before .before .before .before .before .args .start) (c .before .before .before .before .before .before .before .before .before .before .pre) (planner-shape (c .before .before .before .before .before .before .before .before .before .before .args .p) _ (c .before .before .before .before .before .before .before .before .before .before .good .0)) (c .before .before .before .loop .i) (c .before .before .before .loop .chosen) (c .before .before .before .loop .inv) (c .before .if1 .taken) (c .before .before .before .before .before .places-in-order-sound .result) (c .before .before .before .before .before .places-in-order-sound .ensures)
+element-copy-out-id c = inside c
+
+mul-place : tie.Need-mul-place Inv-loop μ-loop
+mul-place c = omega (arith, inside (c .before))
+
+element-copy-out-place : tie.Need-element-copy-out-place Inv-loop μ-loop
+element-copy-out-place c = inside (c .before)
 
 wide-requires : tie.Need-wide-requires Inv-loop μ-loop
 wide-requires c κs = tt
 
 place-among-rising-requires : tie.Need-place-among-rising-requires Inv-loop μ-loop
-place-among-rising-requires c κs = can-search (c .before .before .before .before .before .before .before .before .before .before .before .before .before .args .p) (c .before .before .before .before .before .before .before .before .before .before .before .before .before .args .start) (c .before .before .before .before .before .before .before .before .before .before .before .before .before .pre) (planner-shape (c .before .before .before .before .before .before .before .before .before .before .before .before .before .args .p) _ (c .before .before .before .before .before .before .before .before .before .before .before .before .before .good .0)) (c .before .before .before .before .before .before .before .ids-in-range .result) (c .before .before .before .before .before .before .before .ids-in-range .ensures)
+place-among-rising-requires c κs =
+    let at = c .before .before .before .before .before .before .before .before in
+    let start = from at in
+    can-search (start .pre) (long start) (at .before .ids-in-range .ensures)
 
 mul-stream : tie.Need-mul-stream Inv-loop μ-loop
 mul-stream c = omega (arith, c .place-among-rising .ensures .within)
@@ -54,42 +83,62 @@ mul-stream c = omega (arith, c .place-among-rising .ensures .within)
 array-copy-out-stream : tie.Need-array-copy-out-stream Inv-loop μ-loop
 array-copy-out-stream c = c .place-among-rising .ensures .within
 
+-- the turn, seen from where its stream has been read
+abbrev turn : tie.After-struct-known3 Inv-loop μ-loop → tie.Else2 Inv-loop μ-loop
+turn c = c .before .before .before .before .before .before .before
+
 mul-chosen : tie.Need-mul-chosen Inv-loop μ-loop
-mul-chosen c = omega (arith, still-room (c .before .before .before .before .before .before .before .before .before .before .before .before .before .before .before .before .before .args .p) (c .before .before .before .before .before .before .before .before .before .before .before .before .before .before .before .before .before .args .start) (c .before .before .before .before .before .before .before .before .before .before .before .before .before .before .before .before .before .pre) (planner-shape (c .before .before .before .before .before .before .before .before .before .before .before .before .before .before .before .before .before .args .p) _ (c .before .before .before .before .before .before .before .before .before .before .before .before .before .before .before .before .before .good .0)) (c .before .before .before .before .before .before .before .before .before .before .loop .i) (c .before .before .before .before .before .before .before .before .before .before .loop .chosen) (c .before .before .before .before .before .before .before .before .before .before .loop .inv) (c .before .before .before .before .before .before .before .if2 .left))
+mul-chosen c = omega (arith, room (turn (c .before)))
 
 element-write-chosen : tie.Need-element-write-chosen Inv-loop μ-loop
-element-write-chosen c = still-room (c .before .before .before .before .before .before .before .before .before .before .before .before .before .before .before .before .before .args .p) (c .before .before .before .before .before .before .before .before .before .before .before .before .before .before .before .before .before .args .start) (c .before .before .before .before .before .before .before .before .before .before .before .before .before .before .before .before .before .pre) (planner-shape (c .before .before .before .before .before .before .before .before .before .before .before .before .before .before .before .before .before .args .p) _ (c .before .before .before .before .before .before .before .before .before .before .before .before .before .before .before .before .before .good .0)) (c .before .before .before .before .before .before .before .before .before .before .loop .i) (c .before .before .before .before .before .before .before .before .before .before .loop .chosen) (c .before .before .before .before .before .before .before .before .before .before .loop .inv) (c .before .before .before .before .before .before .before .if2 .left)
+element-write-chosen c = room (turn (c .before))
 
 mul-chosen-2 : tie.Need-mul-chosen-2 Inv-loop μ-loop
-mul-chosen-2 c = omega (arith, still-room (c .before .before .before .before .before .before .before .before .before .before .before .before .before .before .before .before .before .args .p) (c .before .before .before .before .before .before .before .before .before .before .before .before .before .before .before .before .before .args .start) (c .before .before .before .before .before .before .before .before .before .before .before .before .before .before .before .before .before .pre) (planner-shape (c .before .before .before .before .before .before .before .before .before .before .before .before .before .before .before .before .before .args .p) _ (c .before .before .before .before .before .before .before .before .before .before .before .before .before .before .before .before .before .good .0)) (c .before .before .before .before .before .before .before .before .before .before .loop .i) (c .before .before .before .before .before .before .before .before .before .before .loop .chosen) (c .before .before .before .before .before .before .before .before .before .before .loop .inv) (c .before .before .before .before .before .before .before .if2 .left))
+mul-chosen-2 c = omega (arith, room (turn (c .before)))
 
 element-write-chosen-2 : tie.Need-element-write-chosen-2 Inv-loop μ-loop
-element-write-chosen-2 c = still-room (c .before .before .before .before .before .before .before .before .before .before .before .before .before .before .before .before .before .args .p) (c .before .before .before .before .before .before .before .before .before .before .before .before .before .before .before .before .before .args .start) (c .before .before .before .before .before .before .before .before .before .before .before .before .before .before .before .before .before .pre) (planner-shape (c .before .before .before .before .before .before .before .before .before .before .before .before .before .before .before .before .before .args .p) _ (c .before .before .before .before .before .before .before .before .before .before .before .before .before .before .before .before .before .good .0)) (c .before .before .before .before .before .before .before .before .before .before .loop .i) (c .before .before .before .before .before .before .before .before .before .before .loop .chosen) (c .before .before .before .before .before .before .before .before .before .before .loop .inv) (c .before .before .before .before .before .before .before .if2 .left)
+element-write-chosen-2 c = room (turn (c .before))
 
 mul-chosen-3 : tie.Need-mul-chosen-3 Inv-loop μ-loop
-mul-chosen-3 c = omega (arith, still-room (c .before .before .before .before .before .before .before .before .before .before .before .before .before .before .before .before .before .args .p) (c .before .before .before .before .before .before .before .before .before .before .before .before .before .before .before .before .before .args .start) (c .before .before .before .before .before .before .before .before .before .before .before .before .before .before .before .before .before .pre) (planner-shape (c .before .before .before .before .before .before .before .before .before .before .before .before .before .before .before .before .before .args .p) _ (c .before .before .before .before .before .before .before .before .before .before .before .before .before .before .before .before .before .good .0)) (c .before .before .before .before .before .before .before .before .before .before .loop .i) (c .before .before .before .before .before .before .before .before .before .before .loop .chosen) (c .before .before .before .before .before .before .before .before .before .before .loop .inv) (c .before .before .before .before .before .before .before .if2 .left))
+mul-chosen-3 c = omega (arith, room (turn (c .before)))
 
 element-write-chosen-3 : tie.Need-element-write-chosen-3 Inv-loop μ-loop
-element-write-chosen-3 c = still-room (c .before .before .before .before .before .before .before .before .before .before .before .before .before .before .before .before .before .args .p) (c .before .before .before .before .before .before .before .before .before .before .before .before .before .before .before .before .before .args .start) (c .before .before .before .before .before .before .before .before .before .before .before .before .before .before .before .before .before .pre) (planner-shape (c .before .before .before .before .before .before .before .before .before .before .before .before .before .before .before .before .before .args .p) _ (c .before .before .before .before .before .before .before .before .before .before .before .before .before .before .before .before .before .good .0)) (c .before .before .before .before .before .before .before .before .before .before .loop .i) (c .before .before .before .before .before .before .before .before .before .before .loop .chosen) (c .before .before .before .before .before .before .before .before .before .before .loop .inv) (c .before .before .before .before .before .before .before .if2 .left)
+element-write-chosen-3 c = room (turn (c .before))
 
 add-chosen : tie.Need-add-chosen Inv-loop μ-loop
-add-chosen c = omega (arith, still-room (c .before .before .before .before .before .before .before .before .before .before .before .before .before .before .before .before .before .args .p) (c .before .before .before .before .before .before .before .before .before .before .before .before .before .before .before .before .before .args .start) (c .before .before .before .before .before .before .before .before .before .before .before .before .before .before .before .before .before .pre) (planner-shape (c .before .before .before .before .before .before .before .before .before .before .before .before .before .before .before .before .before .args .p) _ (c .before .before .before .before .before .before .before .before .before .before .before .before .before .before .before .before .before .good .0)) (c .before .before .before .before .before .before .before .before .before .before .loop .i) (c .before .before .before .before .before .before .before .before .before .before .loop .chosen) (c .before .before .before .before .before .before .before .before .before .before .loop .inv) (c .before .before .before .before .before .before .before .if2 .left))
+add-chosen c = omega (arith, room (turn (c .before)))
 
 add-i : tie.Need-add-i Inv-loop μ-loop
-add-i c = omega (arith, c .before .before .before .before .before .before .before .before .if1 .taken, c .before .before .before .before .before .before .before .before .before .before .before .before .before .before .before .before .before .pre .sound .count)
+add-i c = omega (arith, inside (turn (c .before)))
 
 loop-less : tie.Need-loop-less Inv-loop μ-loop
 loop-less c = omega arith
 
 loop-again : tie.Need-loop-again Inv-loop μ-loop
 loop-again c =
+    let found = c .before .before .before in
+    let free = turn (c .before) in
+    let more = free .before .before in
+    let at = more .before .before in
+    let start = from at in
+    let p = start .args .p in
+    let ids = at .before .ids-in-range in
+    let order = at .before .before .in-order-sound in
+    let row = found .place-among-rising .result in
+    let in-row = subst (λ (n : ℕ). IsPlaceAmong (ids .result) n row) (found .before .wide .ensures) (found .place-among-rising .ensures) in
+    let now-visited = Visited (p .queue) (p .table) (p .slots) (start .args .start) (at .loop .i + 1) in
     ⊎-elim
-    (λ w. subst⁻¹ (Visited (c .before .before .before .before .before .before .before .before .before .before .before .before .before .before .before .before .before .args .p .queue) (c .before .before .before .before .before .before .before .before .before .before .before .before .before .before .before .before .before .args .p .table) (c .before .before .before .before .before .before .before .before .before .before .before .before .before .before .before .before .before .args .p .slots) (c .before .before .before .before .before .before .before .before .before .before .before .before .before .before .before .before .before .args .start) (c .before .before .before .before .before .before .before .before .before .before .loop .i + 1)) (w .1) (one-more-taken-in (c .before .before .before .before .before .before .before .before .before .before .before .before .before .before .before .before .before .args .p) (c .before .before .before .before .before .before .before .before .before .before .before .before .before .before .before .before .before .args .start) (c .before .before .before .before .before .before .before .before .before .before .before .before .before .before .before .before .before .pre) (planner-shape (c .before .before .before .before .before .before .before .before .before .before .before .before .before .before .before .before .before .args .p) _ (c .before .before .before .before .before .before .before .before .before .before .before .before .before .before .before .before .before .good .0)) (c .before .before .before .before .before .before .before .before .before .before .loop .i) (c .before .before .before .before .before .before .before .before .before .before .loop .chosen) (c .before .before .before .before .before .before .before .before .before .before .loop .inv) (c .before .before .before .before .before .before .before .before .if1 .taken) (c .before .before .before .before .before .before .before .before .before .before .before .before .places-in-order-sound .result) (c .before .before .before .before .before .before .before .before .before .before .before .before .places-in-order-sound .ensures) (c .before .before .before .before .before .before .before .before .before .before .before .ids-in-range .result) (c .before .before .before .before .before .before .before .before .before .before .before .ids-in-range .ensures) (c .before .before .before .place-among-rising .result) (subst (λ (n : ℕ). IsPlaceAmong (c .before .before .before .before .before .before .before .before .before .before .before .ids-in-range .result) n (c .before .before .before .place-among-rising .result)) (c .before .before .before .before .wide .ensures) (c .before .before .before .place-among-rising .ensures)) (c .before .before .before .before .before .before .before .if2 .left) (w .0 .taken)))
-    (λ w. subst⁻¹ (Visited (c .before .before .before .before .before .before .before .before .before .before .before .before .before .before .before .before .before .args .p .queue) (c .before .before .before .before .before .before .before .before .before .before .before .before .before .before .before .before .before .args .p .table) (c .before .before .before .before .before .before .before .before .before .before .before .before .before .before .before .before .before .args .p .slots) (c .before .before .before .before .before .before .before .before .before .before .before .before .before .before .before .before .before .args .start) (c .before .before .before .before .before .before .before .before .before .before .loop .i + 1)) (w .1) (one-more-skipped-in (c .before .before .before .before .before .before .before .before .before .before .before .before .before .before .before .before .before .args .p) (c .before .before .before .before .before .before .before .before .before .before .before .before .before .before .before .before .before .args .start) (c .before .before .before .before .before .before .before .before .before .before .before .before .before .before .before .before .before .pre) (planner-shape (c .before .before .before .before .before .before .before .before .before .before .before .before .before .before .before .before .before .args .p) _ (c .before .before .before .before .before .before .before .before .before .before .before .before .before .before .before .before .before .good .0)) (c .before .before .before .before .before .before .before .before .before .before .loop .i) (c .before .before .before .before .before .before .before .before .before .before .loop .chosen) (c .before .before .before .before .before .before .before .before .before .before .loop .inv) (c .before .before .before .before .before .before .before .before .if1 .taken) (c .before .before .before .before .before .before .before .before .before .before .before .before .places-in-order-sound .result) (c .before .before .before .before .before .before .before .before .before .before .before .before .places-in-order-sound .ensures) (c .before .before .before .before .before .before .before .before .before .before .before .ids-in-range .result) (c .before .before .before .before .before .before .before .before .before .before .before .ids-in-range .ensures) (c .before .before .before .place-among-rising .result) (subst (λ (n : ℕ). IsPlaceAmong (c .before .before .before .before .before .before .before .before .before .before .before .ids-in-range .result) n (c .before .before .before .place-among-rising .result)) (c .before .before .before .before .wide .ensures) (c .before .before .before .place-among-rising .ensures)) (w .0 .left)))
+    (λ w. subst⁻¹ now-visited (w .1)
+    (one-more-taken-in (start .pre) (long start) (at .loop .inv) (more .if1 .taken) (order .ensures) (ids .ensures) in-row (free .if2 .left) (w .0 .taken)))
+    (λ w. subst⁻¹ now-visited (w .1)
+    (one-more-skipped-in (start .pre) (long start) (at .loop .inv) (more .if1 .taken) (order .ensures) (ids .ensures) in-row (w .0 .left)))
     (c .if3 .came)
 
 returns-2 : tie.Need-returns-2 Inv-loop μ-loop
-returns-2 c = all-chosen (c .before .before .before .before .before .before .before .before .before .args .p) (c .before .before .before .before .before .before .before .before .before .args .start) (c .before .before .before .before .before .before .before .before .before .pre) (planner-shape (c .before .before .before .before .before .before .before .before .before .args .p) _ (c .before .before .before .before .before .before .before .before .before .good .0)) (c .before .before .loop .i) (c .before .before .loop .chosen) (c .before .before .loop .inv) (c .if1 .left)
+returns-2 c =
+    let at = c .before .before in
+    let start = from at in
+    all-chosen (start .pre) (long start) (at .loop .inv) (c .if1 .left)
 
 pub choose-sound-spec : {M : Type 1} → statement M
 choose-sound-spec =
@@ -97,15 +146,15 @@ choose-sound-spec =
     (tie.spec
     Inv-loop
     μ-loop
-    cast-slots
-    places-in-order-sound-requires
+    in-order-sound-requires
     ids-in-range-requires
     loop-holds
+    cast-if2
     returns
-    mul-place
-    array-read-place
     mul-id
     element-copy-out-id
+    mul-place
+    element-copy-out-place
     wide-requires
     place-among-rising-requires
     mul-stream

@@ -1,77 +1,105 @@
--- `planner::slots::serve_sound` meets its contract: after k turns the first k slots have been served, in the table and in the queue.
-use mathlib.Core.Path.{subst⁻¹}
-use Prim.Native.Nat.{_+_, _-_, _≤_}
+-- `planner::slots::serve_sound` meets its contract: after k turns the first k slots have been served in the table
+-- and their periods noted, so the moves by these periods are the queue's half.
+use mathlib.Core.Path.{_≡_, refl, subst, subst⁻¹}
+use Prim.Native.Nat.{ℕ, _-_, _≤_, _<_}
 use native.Mathlib.Omega.{arith}
-use lib.ListN.{set, getD}
-use Rattle.table.specs.declared.Stream.{Stream}
-use Rattle.queue.specs.Layout.{queue-of}
+use lib.ListN.{getD}
 use Rattle.planner.specs.Content.{content}
-use Rattle.planner.specs.Calls.{IsSoundWith}
+use Rattle.planner.specs.AddRemove.{IsSoundWith}
 use Rattle.planner.specs.Round.{rounded}
-use Rattle.planner.specs.ServingFacts.{Serving, table-of, none-served, chosen-below, row-below, can-send, can-move-at, one-more-served, all-served}
-use Rattle.planner.proofs.Shape.{planner-shape, planner-queue-shape}
+use Rattle.planner.specs.Needs.{CanServeAll}
+use Rattle.planner.specs.Facts.Serving.{Serving, none-served, chosen-below, row-below, can-send, one-more-served, can-move-all, all-served}
+use Rattle.planner.proofs.Shape.{planner-shape}
 use Rattle.planner.proofs.slots.serve_sound.Statement.{statement}
 use Rattle.planner.proofs.slots.serve_sound.Tie as tie
 
 abbrev Inv-loop : tie.InvT-loop
-Inv-loop p start chosen streams₀ ids₀ keys₀ releases₀ next₀ prev₀ k₀ streams ids keys releases next prev k = (k ≤ chosen .n) × Serving p start k streams (queue-of ids keys releases next prev)
+Inv-loop p start chosen streams₀ periods₀ k₀ streams periods k =
+    CanServeAll p start chosen × (k ≤ chosen .n) × Serving p start k streams periods
 
 abbrev μ-loop : tie.MeasureT-loop
-μ-loop p start chosen streams₀ ids₀ keys₀ releases₀ next₀ prev₀ k₀ streams ids keys releases next prev k = chosen .n - k
+μ-loop p start chosen streams₀ periods₀ k₀ streams periods k = chosen .n - k
 
 loop-holds : tie.Need-loop-holds Inv-loop μ-loop
-loop-holds c = (omega arith, none-served (c .before .before .before .before .before .before .before .before .args .p) (c .before .before .before .before .before .before .before .before .args .start) (c .before .before .before .before .before .before .before .before .args .t2) (c .before .before .before .before .before .before .before .before .pre) (planner-queue-shape (c .before .before .before .before .before .before .before .before .args .p) _ (c .before .before .before .before .before .before .before .before .good .0)) (planner-shape (c .before .before .before .before .before .before .before .before .args .p) _ (c .before .before .before .before .before .before .before .before .good .0)))
+loop-holds c =
+    let start = c .before .before in
+    (start .pre, omega arith, none-served (start .pre) (planner-shape (start .args .p) _ (start .good .0)) refl)
+
+-- in a turn k is below 64, and so is the row of its stream
+turn-below : (c : tie.In-loop Inv-loop μ-loop) → c .before .loop .k < 64
+turn-below c = omega (arith, c .loop-test .taken, chosen-below (c .before .loop .inv .0))
+
+its-row : (c : tie.In-loop Inv-loop μ-loop) → getD (c .before .before .before .before .args .t2 .rows) (c .before .loop .k) 0 < 64
+its-row c =
+    let inv = c .before .loop .inv in
+    row-below (inv .0) (c .loop-test .taken) (inv .2)
 
 mul-row : tie.Need-mul-row Inv-loop μ-loop
-mul-row c = omega (arith, c .loop-test .taken, chosen-below (c .before .before .before .before .before .before .before .before .before .before .args .p) (c .before .before .before .before .before .before .before .before .before .before .args .start) (c .before .before .before .before .before .before .before .before .before .before .args .t2) (c .before .before .before .before .before .before .before .before .before .before .pre))
+mul-row c = omega (arith, turn-below c)
 
 element-copy-out-row : tie.Need-element-copy-out-row Inv-loop μ-loop
-element-copy-out-row c = omega (arith, c .loop-test .taken, chosen-below (c .before .before .before .before .before .before .before .before .before .before .args .p) (c .before .before .before .before .before .before .before .before .before .before .args .start) (c .before .before .before .before .before .before .before .before .before .before .args .t2) (c .before .before .before .before .before .before .before .before .before .before .pre))
-
-mul-place : tie.Need-mul-place Inv-loop μ-loop
-mul-place c = omega (arith, c .before .loop-test .taken, chosen-below (c .before .before .before .before .before .before .before .before .before .before .before .args .p) (c .before .before .before .before .before .before .before .before .before .before .before .args .start) (c .before .before .before .before .before .before .before .before .before .before .before .args .t2) (c .before .before .before .before .before .before .before .before .before .before .before .pre))
-
-element-copy-out-place : tie.Need-element-copy-out-place Inv-loop μ-loop
-element-copy-out-place c = omega (arith, c .before .loop-test .taken, chosen-below (c .before .before .before .before .before .before .before .before .before .before .before .args .p) (c .before .before .before .before .before .before .before .before .before .before .before .args .start) (c .before .before .before .before .before .before .before .before .before .before .before .args .t2) (c .before .before .before .before .before .before .before .before .before .before .before .pre))
+element-copy-out-row c = turn-below c
 
 mul-stream : tie.Need-mul-stream Inv-loop μ-loop
-mul-stream c = omega (arith, row-below (c .before .before .before .before .before .before .before .before .before .before .before .before .args .p) (c .before .before .before .before .before .before .before .before .before .before .before .before .args .start) (c .before .before .before .before .before .before .before .before .before .before .before .before .args .t2) (c .before .before .before .before .before .before .before .before .before .before .before .before .pre) (c .before .before .before .loop .k) (c .before .before .loop-test .taken) (c .before .before .before .loop .streams) (queue-of (c .before .before .before .loop .ids) (c .before .before .before .loop .keys) (c .before .before .before .loop .releases) (c .before .before .before .loop .next) (c .before .before .before .loop .prev)) (c .before .before .before .loop .inv .1))
+mul-stream c = omega (arith, its-row (c .before))
 
 array-copy-out-stream : tie.Need-array-copy-out-stream Inv-loop μ-loop
-array-copy-out-stream c = row-below (c .before .before .before .before .before .before .before .before .before .before .before .before .args .p) (c .before .before .before .before .before .before .before .before .before .before .before .before .args .start) (c .before .before .before .before .before .before .before .before .before .before .before .before .args .t2) (c .before .before .before .before .before .before .before .before .before .before .before .before .pre) (c .before .before .before .loop .k) (c .before .before .loop-test .taken) (c .before .before .before .loop .streams) (queue-of (c .before .before .before .loop .ids) (c .before .before .before .loop .keys) (c .before .before .before .loop .releases) (c .before .before .before .loop .next) (c .before .before .before .loop .prev)) (c .before .before .before .loop .inv .1)
+array-copy-out-stream c = its-row (c .before)
+
+mul-periods : tie.Need-mul-periods Inv-loop μ-loop
+mul-periods c = omega (arith, turn-below (c .before .before))
+
+array-write-periods : tie.Need-array-write-periods Inv-loop μ-loop
+array-write-periods c = turn-below (c .before .before)
 
 at-next-packet-in-range-requires : tie.Need-at-next-packet-in-range-requires Inv-loop μ-loop
-at-next-packet-in-range-requires c κs = can-send (c .before .before .before .before .before .before .before .before .before .before .before .before .before .args .p) (c .before .before .before .before .before .before .before .before .before .before .before .before .before .args .start) (c .before .before .before .before .before .before .before .before .before .before .before .before .before .args .t2) (c .before .before .before .before .before .before .before .before .before .before .before .before .before .pre) (c .before .before .before .before .loop .k) (c .before .before .before .loop-test .taken) (c .before .before .before .before .loop .streams) (queue-of (c .before .before .before .before .loop .ids) (c .before .before .before .before .loop .keys) (c .before .before .before .before .loop .releases) (c .before .before .before .before .loop .next) (c .before .before .before .before .loop .prev)) (c .before .before .before .before .loop .inv .1)
+at-next-packet-in-range-requires c κs =
+    let turn = c .before .before in
+    let inv = turn .before .loop .inv in
+    can-send (inv .0) (turn .loop-test .taken) (inv .2)
 
 mul-streams : tie.Need-mul-streams Inv-loop μ-loop
-mul-streams c = omega (arith, row-below (c .before .before .before .before .before .before .before .before .before .before .before .before .before .before .args .p) (c .before .before .before .before .before .before .before .before .before .before .before .before .before .before .args .start) (c .before .before .before .before .before .before .before .before .before .before .before .before .before .before .args .t2) (c .before .before .before .before .before .before .before .before .before .before .before .before .before .before .pre) (c .before .before .before .before .before .loop .k) (c .before .before .before .before .loop-test .taken) (c .before .before .before .before .before .loop .streams) (queue-of (c .before .before .before .before .before .loop .ids) (c .before .before .before .before .before .loop .keys) (c .before .before .before .before .before .loop .releases) (c .before .before .before .before .before .loop .next) (c .before .before .before .before .before .loop .prev)) (c .before .before .before .before .before .loop .inv .1))
+mul-streams c = omega (arith, its-row (c .before .before .before))
 
 array-set-from-streams : tie.Need-array-set-from-streams Inv-loop μ-loop
-array-set-from-streams c = row-below (c .before .before .before .before .before .before .before .before .before .before .before .before .before .before .args .p) (c .before .before .before .before .before .before .before .before .before .before .before .before .before .before .args .start) (c .before .before .before .before .before .before .before .before .before .before .before .before .before .before .args .t2) (c .before .before .before .before .before .before .before .before .before .before .before .before .before .before .pre) (c .before .before .before .before .before .loop .k) (c .before .before .before .before .loop-test .taken) (c .before .before .before .before .before .loop .streams) (queue-of (c .before .before .before .before .before .loop .ids) (c .before .before .before .before .before .loop .keys) (c .before .before .before .before .before .loop .releases) (c .before .before .before .before .before .loop .next) (c .before .before .before .before .before .loop .prev)) (c .before .before .before .before .before .loop .inv .1)
-
-move-at-sound-requires : tie.Need-move-at-sound-requires Inv-loop μ-loop
-move-at-sound-requires c κs = can-move-at (c .before .before .before .before .before .before .before .before .before .before .before .before .before .before .before .before .before .before .before .args .p) (c .before .before .before .before .before .before .before .before .before .before .before .before .before .before .before .before .before .before .before .args .start) (c .before .before .before .before .before .before .before .before .before .before .before .before .before .before .before .before .before .before .before .args .t2) (c .before .before .before .before .before .before .before .before .before .before .before .before .before .before .before .before .before .before .before .pre) (c .before .before .before .before .before .before .before .before .before .before .loop .k) (c .before .before .before .before .before .before .before .before .before .loop-test .taken) (c .before .before .before .before .before .before .before .before .before .before .loop .streams) (queue-of (c .before .before .before .before .before .before .before .before .before .before .loop .ids) (c .before .before .before .before .before .before .before .before .before .before .loop .keys) (c .before .before .before .before .before .before .before .before .before .before .loop .releases) (c .before .before .before .before .before .before .before .before .before .before .loop .next) (c .before .before .before .before .before .before .before .before .before .before .loop .prev)) (c .before .before .before .before .before .before .before .before .before .before .loop .inv .1)
+array-set-from-streams c = its-row (c .before .before .before)
 
 add-k : tie.Need-add-k Inv-loop μ-loop
-add-k c = omega (arith, c .before .before .before .before .before .before .before .before .before .before .loop-test .taken, chosen-below (c .before .before .before .before .before .before .before .before .before .before .before .before .before .before .before .before .before .before .before .before .args .p) (c .before .before .before .before .before .before .before .before .before .before .before .before .before .before .before .before .before .before .before .before .args .start) (c .before .before .before .before .before .before .before .before .before .before .before .before .before .before .before .before .before .before .before .before .args .t2) (c .before .before .before .before .before .before .before .before .before .before .before .before .before .before .before .before .before .before .before .before .pre))
+add-k c = omega (arith, turn-below (c .before .before .before))
 
 loop-less : tie.Need-loop-less Inv-loop μ-loop
 loop-less c = omega arith
 
 loop-again : tie.Need-loop-again Inv-loop μ-loop
-loop-again c = (
-  omega arith,
-  subst⁻¹ (λ (r : Stream). Serving (c .before .before .before .before .before .before .before .before .before .before .before .before .before .before .before .before .before .before .before .before .args .p) (c .before .before .before .before .before .before .before .before .before .before .before .before .before .before .before .before .before .before .before .before .args .start) (c .before .before .before .before .before .before .before .before .before .before .before .loop .k + 1) (set (c .before .before .before .before .before .before .before .before .before .before .before .loop .streams) (getD (c .before .before .before .before .before .before .before .before .before .before .before .before .before .before .before .before .before .before .before .before .args .t2 .rows) (c .before .before .before .before .before .before .before .before .before .before .before .loop .k) 0) r) (queue-of (c .move-at-sound .last .0) (c .move-at-sound .last .1 .0) (c .move-at-sound .last .1 .1 .0) (c .move-at-sound .last .1 .1 .1 .0) (c .move-at-sound .last .1 .1 .1 .1 .0))) (c .before .before .before .before .before .before .at-next-packet-in-range .ensures)
-      (one-more-served (c .before .before .before .before .before .before .before .before .before .before .before .before .before .before .before .before .before .before .before .before .args .p) (c .before .before .before .before .before .before .before .before .before .before .before .before .before .before .before .before .before .before .before .before .args .start) (c .before .before .before .before .before .before .before .before .before .before .before .before .before .before .before .before .before .before .before .before .args .t2) (c .before .before .before .before .before .before .before .before .before .before .before .before .before .before .before .before .before .before .before .before .pre) (c .before .before .before .before .before .before .before .before .before .before .before .loop .k) (c .before .before .before .before .before .before .before .before .before .before .loop-test .taken) (c .before .before .before .before .before .before .before .before .before .before .before .loop .streams) (queue-of (c .before .before .before .before .before .before .before .before .before .before .before .loop .ids) (c .before .before .before .before .before .before .before .before .before .before .before .loop .keys) (c .before .before .before .before .before .before .before .before .before .before .before .loop .releases) (c .before .before .before .before .before .before .before .before .before .before .before .loop .next) (c .before .before .before .before .before .before .before .before .before .before .before .loop .prev)) (c .before .before .before .before .before .before .before .before .before .before .before .loop .inv .1) _ (c .move-at-sound .ensures)),
-)
+loop-again c =
+    let turn = c .before .before .before in
+    let inv = turn .before .loop .inv in
+    (inv .0, omega arith, one-more-served (inv .0) (turn .loop-test .taken) (inv .2) (c .at-next-packet-in-range .ensures))
+
+-- when the loop is left all have been served
+done : (c : tie.After-loop Inv-loop μ-loop) → let loop = c .before .loop in
+    let start = c .before .before .before .before in
+    Serving (start .args .p) (start .args .start) (start .args .t2 .n) (loop .streams) (loop .periods)
+done c =
+    let loop = c .before .loop in
+    let args = c .before .before .before .before .args in
+    let all : loop .k ≡ args .t2 .n = omega (arith, loop .inv .1, c .loop-test .left) in
+    subst (λ (k : ℕ). Serving (args .p) (args .start) k (loop .streams) (loop .periods)) all (loop .inv .2)
+
+move-all-sound-requires : tie.Need-move-all-sound-requires Inv-loop μ-loop
+move-all-sound-requires c κs =
+    let end = c .before .before .before in
+    can-move-all (end .before .loop .inv .0) (done end)
 
 after-round-requires : tie.Need-after-round-requires Inv-loop μ-loop
 after-round-requires c κs = tt
 
 returns : tie.Need-returns Inv-loop μ-loop
 returns c =
-    subst⁻¹ (IsSoundWith (rounded (content (c .before .before .before .before .before .before .before .before .before .before .before .args .p)) (c .before .before .before .before .before .before .before .before .before .before .before .args .start))) (c .after-round .ensures)
-    (all-served (c .before .before .before .before .before .before .before .before .before .before .before .args .p) (c .before .before .before .before .before .before .before .before .before .before .before .args .start) (c .before .before .before .before .before .before .before .before .before .before .before .args .t2) (c .before .before .before .before .before .before .before .before .before .before .before .pre) (c .before .before .loop .k) (c .before .loop-test .left) (table-of (c .before .before .before .before .before .before .before .before .before .before .before .args .p) (c .before .before .loop .streams)) (queue-of (c .before .before .loop .ids) (c .before .before .loop .keys) (c .before .before .loop .releases) (c .before .before .loop .next) (c .before .before .loop .prev)) (c .before .before .loop .inv .1 .served))
+    let end = c .before .before .before .before .before in
+    let start = end .before .before .before .before in
+    subst⁻¹ (IsSoundWith (rounded (content (start .args .p)) (start .args .start))) (c .after-round .ensures)
+    (all-served (end .before .loop .inv .0) (done end) (c .before .move-all-sound .ensures))
 
 pub serve-sound-spec : {M : Type 1} → statement M
 serve-sound-spec =
@@ -82,16 +110,16 @@ serve-sound-spec =
     loop-holds
     mul-row
     element-copy-out-row
-    mul-place
-    element-copy-out-place
     mul-stream
     array-copy-out-stream
+    mul-periods
+    array-write-periods
     at-next-packet-in-range-requires
     mul-streams
     array-set-from-streams
-    move-at-sound-requires
     add-k
     loop-less
     loop-again
+    move-all-sound-requires
     after-round-requires
     returns)

@@ -1,4 +1,5 @@
--- `planner::slots::write_ids_in_range` meets its contract: at the head of turn k the first k ids stand in the buffer, and its later places are as they were.
+-- `planner::slots::write_ids_in_range` meets its contract: at the head of turn k the first k ids stand in the buffer,
+-- and its later places are as they were.
 use mathlib.Core.List.{_++_}
 use mathlib.Core.Path.{_≡_, refl, _∙_}
 use Prim.Native.Nat.{suc, _-_, _≤_}
@@ -19,35 +20,27 @@ Inv-loop buffer₀ n ids k₀ buffer k = (k ≤ n) × (buffer ≡ take k ids ++ 
 abbrev μ-loop : tie.MeasureT-loop
 μ-loop buffer₀ n ids k₀ buffer k = n - k
 
--- src/slots.rt:19:5
 loop-holds : tie.Need-loop-holds Inv-loop μ-loop
 loop-holds c = (omega arith, refl, refl)
 
--- src/slots.rt:20:21
 mul-buffer : tie.Need-mul-buffer Inv-loop μ-loop
 mul-buffer c = search needs
 
--- src/slots.rt:20:21
 array-read-buffer : tie.Need-array-read-buffer Inv-loop μ-loop
 array-read-buffer c = omega arith
 
--- src/slots.rt:20:9
 mul-buffer-2 : tie.Need-mul-buffer-2 Inv-loop μ-loop
 mul-buffer-2 c = search needs
 
--- src/slots.rt:20:9
 slice-write-buffer : tie.Need-slice-write-buffer Inv-loop μ-loop
 slice-write-buffer c = omega (arith, c .before .loop .inv .2)
 
--- src/slots.rt:21:9
 add-k : tie.Need-add-k Inv-loop μ-loop
 add-k c = search needs
 
--- src/slots.rt:19:5
 loop-less : tie.Need-loop-less Inv-loop μ-loop
 loop-less c = omega arith
 
--- src/slots.rt:19:5
 loop-again : tie.Need-loop-again Inv-loop μ-loop
 loop-again c =
     let at-loop = c .before in
@@ -55,16 +48,18 @@ loop-again c =
     let ids = start .args .t2 in
     let k = at-loop .loop .k in
     let sixty-four : length ids ≡ 64 = good-length (eInt w16) 64 ids _ (start .good .1 .0) in
-    let copied = rw (zero-add k, zero-add (suc k)) at (paste-suc (start .args .buffer .now) 0 ids k 0 (omega (arith, at-loop .loop .inv .2)) (omega (arith, sixty-four))) in
-    (omega arith, rw (at-loop .loop .inv .1, add-one k) copied, length-set (at-loop .loop .buffer) k (getD ids k 0) ∙ at-loop .loop .inv .2)
+    let same-length = at-loop .loop .inv .2 in
+    let pasted = paste-suc (start .args .buffer .now) 0 ids k 0 (omega (arith, same-length)) (omega (arith, sixty-four)) in
+    let copied = rw (zero-add k, zero-add (suc k)) at pasted in
+    (omega arith, rw (at-loop .loop .inv .1, add-one k) copied, length-set (at-loop .loop .buffer) k (getD ids k 0) ∙ same-length)
 
--- src/slots.rt:14:1
 same-length : tie.Need-same-length Inv-loop μ-loop
 same-length c = c .before .loop .inv .2
 
--- src/slots.rt:14:1
 returns : tie.Need-returns Inv-loop μ-loop
-returns c = let e : c .before .loop .k ≡ c .before .before .args .n = omega arith in rw e at (c .before .loop .inv .1)
+returns c =
+    let all : c .before .loop .k ≡ c .before .before .args .n = omega arith in
+    rw all at (c .before .loop .inv .1)
 
 pub write-ids-in-range-spec : {M : Type 1} → statement M
 write-ids-in-range-spec =

@@ -3,19 +3,21 @@ use mathlib.Core.Path.{_≡_}
 use mathlib.Core.List.{List, List·Mem}
 use Prim.Native.Nat.{ℕ, _+_, _≤_, _<_}
 use lib.ListN.{length, take, getD}
+use Rattle.basics.specs.Limits.{last-start, places, largest-id}
 use Rattle.basics.specs.Refusals.{answer-of}
-use Rattle.rules.specs.Streams.{Stream, due}
 use Rattle.rules.specs.Demand.{DemandRule, StartRule}
-use Rattle.table.specs.Table.{streams-of, stream-at}
+use Rattle.table.specs.Table.{records-of, record-at, due-of}
+use Rattle.table.specs.declared.Record.{Record}
 use Rattle.table.specs.Changes.{Ascending}
 use Rattle.table.specs.declared.Table.{Table}
-use Rattle.queue.specs.Layout.{id-at, entries}
-use Rattle.queue.specs.Layout
+use Rattle.queue.specs.Interface.{entries, IsPlacedAt}
+use Rattle.queue.specs.Interface
 use Rattle.queue.specs.declared.Queue.{Queue}
-use Rattle.planner.specs.Content.{Content, content, now-of}
+use Rattle.planner.specs.Content.{Content, content, slots-of, streams-in, now-of}
 use Rattle.planner.specs.Sound.{Files, Sound}
-use Rattle.planner.specs.Calls.{added, IsOffer}
-use Rattle.planner.specs.Round.{IsStart, ids-at, round-refusals}
+use Rattle.planner.specs.AddRemove.{Offer, added, IsWellFormed}
+use Rattle.planner.specs.Round.{ids-at, round-refusals}
+use Rattle.planner.specs.Start.{IsStart}
 use Rattle.planner.specs.declared.Planner.{Planner}
 use Rattle.planner.specs.declared.slots.Chosen.{Chosen}
 
@@ -27,26 +29,30 @@ pub record IsSoundStart (p : Planner) (r : ℕ) : Type 0 where
 
 -- What the comparison of queue and table relies on.
 pub record CanCompare (table : Table) : Type 0 where
-  pub count : table .count ≤ 64
-  pub ascending : Ascending (streams-of table)
-  pub ids : (s : Stream) → List·Mem s (streams-of table) → (1 ≤ s .number) × (s .number ≤ 32767)
-  pub dues : (s : Stream) → List·Mem s (streams-of table) → due s ≤ 2_000_000_000
-  pub span : (s t : Stream) → List·Mem s (streams-of table) → List·Mem t (streams-of table) → due s ≤ due t + 479
+  pub count : table .count ≤ places
+  pub ascending : Ascending (records-of table)
+  pub ids : (r : Record) → List·Mem r (records-of table) → (1 ≤ r .id) × (r .id ≤ largest-id)
+  pub dues : (r : Record) → List·Mem r (records-of table) → due-of r ≤ 2_000_000_000
+  pub span : (q r : Record) → List·Mem q (records-of table) → List·Mem r (records-of table) → due-of q ≤ due-of r + 479
 
 -- The queue is sound and files exactly the streams of the table.
 abbrev pub IsFiled : Table → Queue → Type 0
-IsFiled table q = Layout.Sound q × Files (entries q) (streams-of table)
+IsFiled table q = Interface.Sound q × Files (entries q) (records-of table)
+
+-- The planner with another last start, table and queue.
+abbrev pub stored : Planner → ℕ → Table → Queue → Planner
+stored p last table queue = record { slots = p .slots; frame = p .frame; gap = p .gap; last = last; table = table; queue = queue }
 
 -- What the test of the two rules relies on: that none of 5 to 11 applies ..
-pub record CanTest (p : Planner) (id start period deadline : ℕ) : Type 0 where
+pub record CanTest (p : Planner) (o : Offer) : Type 0 where
   pub sound : Sound p
-  pub offer : IsOffer (content p) id start period deadline
+  pub formed : IsWellFormed (content p) o
 
 -- .. and what taking the stream in relies on: that none of 12 and 13 does.
-pub record CanAdd (p : Planner) (id start period deadline : ℕ) : Type 0 where
-  pub can-test : CanTest p id start period deadline
-  pub demand-rule : DemandRule (p .slots) (added (content p) id start period deadline .table)
-  pub start-rule : StartRule (p .slots) (now-of (content p)) (added (content p) id start period deadline .table)
+pub record CanAdd (p : Planner) (o : Offer) : Type 0 where
+  pub can-test : CanTest p o
+  pub demand-rule : DemandRule (slots-of (content p)) (streams-in (added (content p) o))
+  pub start-rule : StartRule (slots-of (content p)) (now-of (content p)) (streams-in (added (content p) o))
 
 -- The answer of round for a buffer of this length.
 abbrev pub IsRoundAnswer : Planner → ℕ → ℕ → Type 0
@@ -61,15 +67,13 @@ pub record CanChoose (p : Planner) (s : ℕ) : Type 0 where
 pub record IsChosen (h : Content) (s : ℕ) (chosen : Chosen) : Type 0 where
   pub n : chosen .n ≡ length (ids-at h s)
   pub ids : take (chosen .n) (chosen .ids) ≡ ids-at h s
-  pub few : chosen .n ≤ h .slots
+  pub few : chosen .n ≤ slots-of h
 
 -- The row of an id's stream in the table, and its place in the queue.
 pub record IsFoundAt (table : Table) (queue : Queue) (id row place : ℕ) : Type 0 where
-  pub some : 1 ≤ id
   pub in-table : row < table .count
-  pub row-id : stream-at table row .number ≡ id
-  pub in-queue : place < 64
-  pub place-id : id-at queue place ≡ id
+  pub row-id : record-at table row .id ≡ id
+  pub in-queue : IsPlacedAt queue id place
 
 -- Each id chosen stands beside its row and its place.
 abbrev pub AreFound : Table → Queue → Chosen → Type 0
@@ -77,6 +81,14 @@ AreFound table queue chosen = (k : ℕ) → k < chosen .n → IsFoundAt table qu
 
 pub record CanServeAll (p : Planner) (s : ℕ) (chosen : Chosen) : Type 0 where
   pub can-choose : CanChoose p s
-  pub by-last : s ≤ 1_000_000_000
+  pub by-last : s ≤ last-start
   pub is-chosen : IsChosen (content p) s chosen
   pub are-found : AreFound (p .table) (p .queue) chosen
+
+-- the planner's table with its rows rewritten
+abbrev pub table-of : Planner → List Record → Table
+table-of p streams = record { count = p .table .count; streams = streams }
+
+-- The planner with a round held at s, which left these streams and this queue.
+abbrev pub served-planner : Planner → ℕ → List Record → Queue → Planner
+served-planner p s streams queue = stored p s (table-of p streams) queue

@@ -5,20 +5,21 @@ use Prim.Native.Nat.{ℕ, _≤_, _<_}
 use native.Mathlib.Nat.{lt-irrefl}
 use native.Mathlib.Omega.{arith}
 use lib.ListN.{length, take, drop}
-use Rattle.basics.specs.Refusals.{answer-of, answer-zero, none, here, later, first-is-answer}
+use Rattle.basics.specs.Refusals.{answer-of, none, here, later}
+use Rattle.basics.specs.Facts.Refusals.{answer-zero, first-is-answer}
 use Rattle.planner.specs.Content.{content}
 use Rattle.planner.specs.Sound.{Sound}
-use Rattle.planner.specs.Calls.{unsound, IsSoundWith}
+use Rattle.planner.specs.AddRemove.{unsound, IsSoundWith}
 use Rattle.planner.specs.Round.{short-buffer, late-start, round-refusals, rounded, IsRound}
-use Rattle.planner.specs.CallFacts.{starts-late-iff, held-is-sound, held-is-not-late}
-use Rattle.planner.specs.Inner.{CanChoose, CanServeAll, IsChosen, AreFound, IsSoundStart}
+use Rattle.planner.specs.Facts.Calls.{starts-late-iff, held-is-sound, held-is-not-late}
+use Rattle.planner.specs.Needs.{CanChoose, CanServeAll, IsChosen, AreFound, IsSoundStart}
 use Rattle.planner.specs.declared.Planner.{Planner}
 use Rattle.planner.specs.declared.slots.Chosen.{Chosen}
 
 above : (m n : ℕ) → (m < n → ⊥) → n ≤ m
 above m n not-less = omega arith
 
-module _ (p : Planner) (start : ℕ) (test : IsSoundStart p start) where
+module _ {p : Planner} {start : ℕ} (test : IsSoundStart p start) where
   pub no-sound-start : start ≡ 0 → (buffer : List ℕ) → 5 ≡ answer-of (round-refusals p buffer)
   no-sound-start zero buffer = first-is-answer (here (test .unsound zero))
 
@@ -44,7 +45,7 @@ module _ (p : Planner) (start : ℕ) (test : IsSoundStart p start) where
             first-is-answer (later passes-5 (later not-short
             (later (λ late. lt-irrefl 1_000_000_000 (omega (arith, early, late (test .sound some) start (test .start some)))) none)))
 
-  module _ (buffer : List ℕ) (a : ℕ) (is : a ≡ answer-of (round-refusals p buffer)) where
+  module _ (buffer : List ℕ) {a : ℕ} (is : a ≡ answer-of (round-refusals p buffer)) where
     -- a refused round hands everything back
     pub round-refused : (a ≡ 0 → ⊥) → IsRound p buffer buffer (record { answer = a; planner = p; start = 0; n = 0 })
     round-refused some =
@@ -76,14 +77,15 @@ module _ (p : Planner) (start : ℕ) (test : IsSoundStart p start) where
       pub buffer-long : p .slots ≤ length buffer
       buffer-long = above (length buffer) (p .slots) (after-16 .0)
 
-      module _ (chosen : Chosen) (is-chosen : IsChosen (content p) start chosen × AreFound (p .table) (p .queue) chosen) where
+      module _ {chosen : Chosen} (is-chosen : IsChosen (content p) start chosen × AreFound (p .table) (p .queue) chosen) where
         pub can-serve-all : CanServeAll p start chosen
         can-serve-all = record { can-choose = can-choose; by-last = early; is-chosen = is-chosen .0; are-found = is-chosen .1 }
 
         -- the round as it is held
-        pub round-held : (after : List ℕ) → after ≡ take (chosen .n) (chosen .ids) ++ drop (chosen .n) buffer → (q : Planner) → IsSoundWith (rounded (content p) start) q
+        pub round-held : {after : List ℕ} → after ≡ take (chosen .n) (chosen .ids) ++ drop (chosen .n) buffer
+            → {q : Planner} → IsSoundWith (rounded (content p) start) q
             → IsRound p buffer after (record { answer = 0; planner = q; start = start; n = chosen .n })
-        round-held after written q with-h =
+        round-held written with-h =
             record {
               answer = sym passed ∙ is;
               refused = λ some. absurd (some (sym is ∙ passed));

@@ -7,17 +7,19 @@ use native.Mathlib.Decide.{ℕ-discrete}
 use native.Mathlib.Omega.{arith}
 use lib.ListN.{length}
 use lib.Seq.{take-nil}
-use Rattle.basics.specs.Refusals.{Refusal, FirstOf, answer-of, answer-is-first, answer-first, answer-later, answer-zero, answer-other, AllPass, answer-after}
+use Rattle.basics.specs.Refusals.{Refusal, answer-of, FirstOf}
+use Rattle.basics.specs.Facts.Refusals.{answer-is-first, answer-first, answer-later, answer-zero, answer-other, AllPass, answer-after}
 use Rattle.rules.specs.Streams.{Stream}
 use Rattle.rules.specs.Demand.{future}
 use Rattle.rules.specs.Slots.{riders, in-order, slots}
-use Rattle.rules.specs.LazyStart.{lazy-unique}
-use Rattle.table.specs.StartFacts.{nothing-due}
-use Rattle.planner.specs.Content.{Content, content, now-of, cap-of}
+use Rattle.rules.specs.Facts.LazyStart.{lazy-unique}
+use Rattle.table.specs.Facts.Start.{nothing-due}
+use Rattle.planner.specs.Content.{Content, content, now-of, cap-of, slots-of, streams-in}
 use Rattle.planner.specs.Sound.{ContentSound, Sound}
-use Rattle.planner.specs.Decide.{decide-sound}
-use Rattle.planner.specs.Calls.{unsound, IsSoundWith, IsChange}
-use Rattle.planner.specs.Round.{IsStart, StartsLate, decide-late, short-buffer, late-start, round-refusals, ids-at, IsRefusedRound, IsHeldRound, IsRound}
+use Rattle.planner.specs.Decide.{decide-sound, decide-late}
+use Rattle.planner.specs.AddRemove.{unsound, IsSoundWith, IsChange}
+use Rattle.planner.specs.Round.{short-buffer, late-start, round-refusals, ids-at, IsRefusedRound, IsHeldRound, IsRound}
+use Rattle.planner.specs.Start.{IsStart, StartsLate}
 use Rattle.planner.specs.declared.Planner.{Planner}
 use Rattle.planner.specs.declared.Changed.{Changed}
 use Rattle.planner.specs.declared.Rounded.{Rounded}
@@ -58,7 +60,9 @@ module _ {p : Planner} {before after : List ℕ} {r : Rounded} (is : IsRound p b
 pub starts-late-iff : (p : Planner) → Sound p → (s : ℕ) → IsStart (content p) s → StartsLate p ↔ (1_000_000_000 < s)
 starts-late-iff p sound s start = (
   λ late. late sound s start,
-  λ late _ x other. subst (λ (y : ℕ). 1_000_000_000 < y) (lazy-unique (content p .slots) (cap-of (content p)) (content p .table) s x start other) late,
+  λ late _ x other.
+      let h = content p in
+      subst (λ (y : ℕ). 1_000_000_000 < y) (lazy-unique (slots-of h) (cap-of h) (streams-in h) s x start other) late,
 )
 
 module _ (p : Planner) (buffer : List ℕ) where
@@ -85,7 +89,8 @@ module _ (p : Planner) (buffer : List ℕ) where
       go : Dec (StartsLate p) → StartsLate p
       go (yes late) = late
       go (no early) =
-          let last : answer-of [] ≡ 17 = sym (answer-later (late-start p) [] early) ∙ by-last-refusal 17 (λ e. omega (arith, e)) (λ e. omega (arith, e)) given in
+          let asked-last = by-last-refusal 17 (λ e. omega (arith, e)) (λ e. omega (arith, e)) given in
+          let last : answer-of [] ≡ 17 = sym (answer-later (late-start p) [] early) ∙ asked-last in
           absurd (omega (arith, last))
 
   module _ (sound : Sound p) (long : content p .slots ≤ length buffer) (s : ℕ) (start : IsStart (content p) s) where
@@ -120,9 +125,9 @@ module _ (h : Content) (empty : h .table ≡ []) where
   unfolding future
   empty-start sound =
       let gap = sound .in-range .gap .0 in
-      nothing-due (h .slots) (now-of h) (cap-of h) (h .table) (omega arith) (omega arith) (λ t. rw empty refl) .lazy (omega arith)
+      nothing-due (slots-of h) (now-of h) (cap-of h) (streams-in h) (omega arith) (omega arith) (λ t. rw empty refl) .lazy (omega arith)
 
   -- .. and the slots with nothing
   pub empty-slots : (s : ℕ) → ids-at h s ≡ []
   unfolding slots in-order riders
-  empty-slots s = rw (empty, take-nil {A = Stream} (h .slots)) refl
+  empty-slots s = rw (empty, take-nil {A = Stream} (slots-of h)) refl

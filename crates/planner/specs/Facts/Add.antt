@@ -1,0 +1,185 @@
+-- What the parts of add rest on: what is known where a refusal is passed, and the planner with the offered stream.
+use mathlib.Core.Path.{_≡_, sym, subst, subst⁻¹, _∙_}
+use mathlib.Core.Logic.{Dec·and, Dec·not-not}
+use mathlib.Core.List.{List, _++_}
+use Prim.Native.Nat.{ℕ, _+_, _≤_, _<_}
+use native.Mathlib.Nat.{lt-irrefl}
+use native.Mathlib.Decide.{decLe, decDvd}
+use native.Mathlib.Omega.{arith}
+use lib.ListN.{length}
+use Rattle.basics.specs.Refusals.{Refusal, answer-of}
+use Rattle.basics.specs.Facts.Refusals.{answer-later, answer-zero, answer-after, answer-append, zero-before, AllPass, AllNumbered, zero-all-pass}
+use Rattle.rules.specs.Demand.{DemandRule, StartRule}
+use Rattle.rules.specs.Decide.{decide-demand-rule, decide-start-rule}
+use Rattle.table.specs.Table.{as-streams, streams-of}
+use Rattle.table.specs.Facts.Changes.{records-count}
+use Rattle.table.specs.declared.Record.{Record}
+use Rattle.table.specs.Changes.{HasRecords, CanPut}
+use Rattle.table.specs.Range.{RecordsInRange, AreNear, TableInRange}
+use Rattle.table.specs.Lengths.{IsBusyLength, IsNextStart, CanTestDemand, CanFindStart}
+use Rattle.table.specs.declared.Table.{Table}
+use Rattle.queue.specs.Interface.{put, entries, HasEntries, CanInsert}
+use Rattle.queue.specs.declared.Queue.{Queue}
+use Rattle.planner.specs.Content.{Content, content, now-of, slots-of, streams-in}
+use Rattle.planner.specs.Sound.{entry-of, Sound}
+use Rattle.planner.specs.Decide.{decide-sound}
+use Rattle.planner.specs.Open.{setting-of}
+use Rattle.planner.specs.Facts.Open.{NumbersInRange, range-numbers, in-limit}
+use Rattle.planner.specs.AddRemove.{Offer, offered, added, unsound, offer-refusals, rule-refusals, add-refusals, IsWellFormed, IsSoundWith}
+use Rattle.planner.specs.Facts.Files.{can-insert, files-inserted}
+use Rattle.planner.specs.Facts.Kept.{added-in-range, added-sound}
+use Rattle.planner.specs.Facts.SoundTest.{can-test-demand, can-find-start}
+use Rattle.planner.specs.Facts.Changes.{is-sound-with}
+use Rattle.planner.specs.Needs.{stored, CanAdd, CanTest}
+use Rattle.planner.specs.declared.Planner.{Planner}
+
+-- the numbers of a sound planner
+pub sound-numbers : (p : Planner) → Sound p → NumbersInRange (setting-of (content p))
+sound-numbers p sound = range-numbers (sound .content-sound .in-range)
+
+module _ {p : Planner} (sound : Sound p) (long : length (p .table .streams) ≡ 64) where
+  -- as many records as the table's count says
+  pub sound-count : length (content p .table) ≡ p .table .count
+  sound-count = records-count (p .table) (omega (arith, long, sound .count))
+
+  -- the test for 8
+  pub is-full : p .table .count ≡ 64 → 64 ≤ length (content p .table)
+  is-full same = omega (arith, sound-count, same)
+
+  pub has-room : (p .table .count ≡ 64 → ⊥) → 64 ≤ length (content p .table) → ⊥
+  has-room differs many = differs (omega (arith, sound-count, sound .count, many))
+
+-- the tests for 11, which add nothing to the start
+module _ (h : Content) (start : ℕ) where
+  pub too-early : start ≤ h .last → ((now-of h ≤ start) × (start ≤ now-of h + 239)) → ⊥
+  too-early early range = lt-irrefl start (omega (arith, early, range .0))
+
+  pub too-late : h .last + 240 < start → ((now-of h ≤ start) × (start ≤ now-of h + 239)) → ⊥
+  too-late late range = lt-irrefl start (omega (arith, late, range .1))
+
+  pub near-now : h .last < start → start ≤ h .last + 240 → (now-of h ≤ start) × (start ≤ now-of h + 239)
+  near-now after soon = (omega arith, omega arith)
+
+module _ (h : Content) (o : Offer) where
+  -- none of 6 to 11 applies to an offer that is well formed ..
+  pub offer-passes : IsWellFormed h o → AllPass (offer-refusals h o)
+  unfolding AllPass
+  offer-passes formed = (
+    λ bad. bad (formed .id),
+    (
+      formed .new,
+      (
+        λ many. lt-irrefl 64 (omega (arith, formed .place-free, many)),
+        (λ bad. bad (formed .period-range, formed .divides), (λ bad. bad (formed .deadline-range), (λ bad. bad (formed .start-range), tt))),
+      ),
+    ),
+  )
+
+  -- .. and one that none of them applies to is
+  pub passes-offer : AllPass (offer-refusals h o) → IsWellFormed h o
+  unfolding AllPass
+  passes-offer pass =
+      let period-in = Dec·not-not (Dec·and (Dec·and (decLe 1 (o .period)) (decLe (o .period) 240)) (decDvd (o .period) (h .frame))) .0 (pass .1 .1 .1 .0) in
+      record {
+        id = in-limit 32767 (o .id) (pass .0);
+        new = pass .1 .0;
+        place-free = not-full (length (h .table)) (pass .1 .1 .0);
+        period-range = period-in .0;
+        divides = period-in .1;
+        deadline-range = in-limit (o .period) (o .deadline) (pass .1 .1 .1 .1 .0);
+        start-range = Dec·not-not (Dec·and (decLe (now-of h) (o .start)) (decLe (o .start) (now-of h + 239))) .0 (pass .1 .1 .1 .1 .1 .0);
+      }
+    where
+      not-full : (n : ℕ) → (64 ≤ n → ⊥) → n < 64
+      not-full n room = omega arith
+
+  pub offer-passed : answer-of (offer-refusals h o) ≡ 0 → IsWellFormed h o
+  unfolding AllNumbered
+  offer-passed zero =
+      passes-offer (zero-all-pass (offer-refusals h o) (omega arith, (omega arith, (omega arith, (omega arith, (omega arith, (omega arith, tt)))))) zero)
+
+-- what neither 12 nor 13 applies to keeps both rules
+pub rules-passed : (h : Content) → answer-of (rule-refusals h) ≡ 0
+    → DemandRule (slots-of h) (streams-in h) × StartRule (slots-of h) (now-of h) (streams-in h)
+unfolding AllNumbered AllPass
+rules-passed h zero =
+    let pass = zero-all-pass (rule-refusals h) (omega arith, (omega arith, tt)) zero in (
+      Dec·not-not (decide-demand-rule (slots-of h) (streams-in h)) .0 (pass .0),
+      Dec·not-not (decide-start-rule (slots-of h) (now-of h) (streams-in h)) .0 (pass .1 .0),
+    )
+
+module _ (p : Planner) (o : Offer) where
+  abbrev offers : List Refusal
+  offers = offer-refusals (content p) o
+
+  abbrev rules : List Refusal
+  rules = rule-refusals (added (content p) o)
+
+  -- add's answer is 5, or that of 6 to 11 where it is not 0, or that of 12 and 13
+  pub by-offer : Sound p → (answer-of offers ≡ 0 → ⊥) → answer-of offers ≡ answer-of (add-refusals p o)
+  by-offer sound some = sym (answer-later (unsound p) (offers ++ rules) (λ bad. bad sound) ∙ answer-append offers rules some)
+
+  pub by-rules : CanTest p o → answer-of rules ≡ answer-of (add-refusals p o)
+  by-rules can =
+      sym (answer-later (unsound p) (offers ++ rules) (λ bad. bad (can .sound)) ∙ answer-after offers rules (offer-passes (content p) o (can .formed)))
+
+  -- where it is 0 the stream can be taken in
+  pub can-add : answer-of (add-refusals p o) ≡ 0 → CanAdd p o
+  can-add zero =
+      let five = answer-zero (unsound p) (offers ++ rules) (λ e. lt-irrefl 0 (omega (arith, e))) zero in
+      let can : CanTest p o =
+      record { sound = Dec·not-not (decide-sound p) .0 (five .0); formed = offer-passed (content p) o (zero-before offers rules (five .1)) } in
+      let kept = rules-passed (added (content p) o) (by-rules can ∙ zero) in
+      record { can-test = can; demand-rule = kept .0; start-rule = kept .1 }
+
+module _ {p : Planner} {o : Offer} (can : CanTest p o) where
+  -- the table has room ..
+  pub can-put : length (p .table .streams) ≡ 64 → CanPut (p .table)
+  can-put long = record { room = omega (arith, sound-count (can .sound) long, can .formed .place-free) }
+
+  -- .. and so has the queue
+  pub can-file : CanInsert (p .queue) (entry-of (offered o))
+  can-file =
+      can-insert p (can .sound) (offered o) (can .formed .id) (can .formed .new) (can .formed .place-free) (can .formed .deadline-range .0)
+      (omega (arith, can .formed .deadline-range, can .formed .period-range)) (can .formed .start-range .0) (can .formed .start-range .1)
+
+  module _ {table : Table} (has : HasRecords (added (content p) o .table) table) where
+    -- the planner as it would be with the table, but for its queue
+    abbrev offered-table : Planner
+    offered-table = stored p (p .last) table (p .queue)
+
+    its-range : TableInRange (p .frame) (p .last + 1) table
+    its-range =
+        let range = added-in-range (content p) (can .sound .content-sound) o (can .formed) in
+        record {
+          count = has .count;
+          records = subst⁻¹ (RecordsInRange (p .frame)) (has .records) (range .0 .records);
+          near = subst⁻¹ (AreNear (p .last + 1)) (has .records) (range .1);
+        }
+
+    -- both rules can be tested on the table with the stream ..
+    pub can-test-table : CanTestDemand (slots-of (content p)) (p .frame) table
+    can-test-table = can-test-demand offered-table (sound-numbers p (can .sound)) its-range
+
+    pub can-find-table : {busy : ℕ} → IsBusyLength (slots-of (content p)) (streams-of table) busy → 1 ≤ busy
+        → CanFindStart (slots-of (content p)) (p .last + 1) (p .last + 1) busy table
+    can-find-table {busy} is-busy some = can-find-start offered-table (sound-numbers p (can .sound)) its-range busy is-busy (omega arith) some
+
+    -- .. and the answers are those for what the planner would hold
+    pub busy-of-added : {r : ℕ} → IsBusyLength (slots-of (content p)) (streams-of table) r
+        → IsBusyLength (slots-of (content p)) (streams-in (added (content p) o)) r
+    busy-of-added {r} = subst (λ (rs : List Record). IsBusyLength (slots-of (content p)) (as-streams rs) r) (has .records)
+
+    pub start-of-added : {cap r : ℕ} → IsNextStart (slots-of (content p)) (p .last + 1) cap (streams-of table) r
+        → IsNextStart (slots-of (content p)) (p .last + 1) cap (streams-in (added (content p) o)) r
+    start-of-added {cap} {r} = subst (λ (rs : List Record). IsNextStart (slots-of (content p)) (p .last + 1) cap (as-streams rs) r) (has .records)
+
+-- the planner with that table and the entry in its queue is sound
+pub taken-in : {p : Planner} {o : Offer} → CanAdd p o
+    → {table : Table} → HasRecords (added (content p) o .table) table
+    → {queue : Queue} → HasEntries queue (put (entry-of (offered o)) (entries (p .queue)))
+    → IsSoundWith (added (content p) o) (stored p (p .last) table queue)
+taken-in {p} {o} can has filed =
+    is-sound-with p (p .last) has
+    (added-sound (content p) (can .can-test .sound .content-sound) o (can .can-test .formed) (can .demand-rule) (can .start-rule)) filed
+    (files-inserted (entries (p .queue)) (content p .table) (offered o) (can .can-test .sound .files))

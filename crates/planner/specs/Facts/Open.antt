@@ -1,0 +1,91 @@
+-- A successful opening gives a sound planner, and the closed planner is not sound.
+use mathlib.Core.Path.{_≡_, refl, sym, subst, subst⁻¹, _∙_}
+use mathlib.Core.Logic.{∥∥₁-elim, Dec·and, Dec·not-not}
+use mathlib.Core.List.{List, List·Mem, List·Mem-prop, Pairwise·nil, not-mem-nil}
+use Prim.Native.Nat.{ℕ, _≤_, _<_}
+use native.Mathlib.Nat.{lt-irrefl}
+use native.Mathlib.Decide.{decLe}
+use native.Mathlib.Omega.{arith}
+use lib.ListN.{length}
+use Rattle.basics.specs.Refusals.{answer-of}
+use Rattle.basics.specs.Facts.Refusals.{AllPass, AllNumbered, zero-all-pass}
+use Rattle.rules.specs.Demand.{demand, future}
+use Rattle.table.specs.Range.{RecordsInRange}
+use Rattle.queue.specs.Interface.{Entry, empty-queue}
+use Rattle.queue.specs.InterfaceLaws.{empty-has-none}
+use Rattle.queue.specs.declared.Queue.{Queue}
+use Rattle.planner.specs.Content.{Content}
+use Rattle.planner.specs.Sound.{InRange, ContentSound, Sound}
+use Rattle.planner.specs.Open.{Setting, setting-of, zeros, open-refusals, opened, fresh-with, IsFresh, IsOpened}
+use Rattle.planner.specs.declared.Planner.{Planner}
+use Rattle.planner.specs.declared.Changed.{Changed}
+
+-- what is in range where open refuses nothing
+pub record NumbersInRange (s : Setting) : Type 0 where
+  pub slots : (1 ≤ s .slots) × (s .slots ≤ 64)
+  pub frame : (1 ≤ s .frame) × (s .frame ≤ 5040)
+  pub gap : (1 ≤ s .gap) × (s .gap ≤ 255)
+  pub last : s .last ≤ 1_000_000_000
+
+-- the numbers of what is in range
+pub range-numbers : {h : Content} → InRange h → NumbersInRange (setting-of h)
+range-numbers range = record { slots = range .slots; frame = range .frame; gap = range .gap; last = range .last }
+
+-- with its numbers and its records in range, what a planner holds is
+pub in-range-by-numbers : {h : Content} → NumbersInRange (setting-of h) → length (h .table) ≤ 64 → RecordsInRange (h .frame) (h .table) → InRange h
+in-range-by-numbers numbers few records =
+    record { slots = numbers .slots; frame = numbers .frame; gap = numbers .gap; last = numbers .last; at-most = few; records = records }
+
+opened-sound : (s : Setting) → NumbersInRange s → ContentSound (opened s)
+unfolding demand future
+opened-sound s numbers =
+    record {
+      in-range = in-range-by-numbers numbers (omega arith) (record { each = λ s m. absurd (not-mem-nil m); ascending = Pairwise·nil });
+      near = record { due-after = λ s m. absurd (not-mem-nil m); released = λ s m. absurd (not-mem-nil m) };
+      demand-rule = λ u some. omega arith;
+      start-rule = λ u after. omega arith;
+    }
+
+-- the empty queue is all that a planner with these numbers and no stream wants
+pub with-empty-queue : (s : Setting) (q : Queue) → q ≡ empty-queue → IsFresh s (fresh-with s q)
+with-empty-queue s q is = record { whole = rw is; holds = refl }
+
+-- 01: "A successful open gives a sound planner."
+pub fresh-is-sound : (s : Setting) → NumbersInRange s → (p : Planner) → IsFresh s p → Sound p
+fresh-is-sound s numbers p is =
+    subst⁻¹ Sound (is .whole)
+    (record {
+      count = omega arith;
+      content-sound = opened-sound s numbers;
+      queue-sound = empty-has-none .sound;
+      files = λ e. (
+        λ m. absurd (not-mem-nil (subst (λ (es : List Entry). List·Mem e es) (empty-has-none .content) m)),
+        λ some. ∥∥₁-elim some List·Mem-prop (λ w. absurd (not-mem-nil (w .1))),
+      );
+    })
+
+-- 01: "It is not sound", of the closed planner.
+pub closed-is-not-sound : (p : Planner) → IsFresh zeros p → Sound p → ⊥
+closed-is-not-sound p fresh sound = lt-irrefl 0 (subst (λ (h : Content). 1 ≤ h .slots) (fresh .holds) (sound .content-sound .in-range .slots .0))
+
+-- a number that `not-in` does not refuse is 1 to the limit
+pub in-limit : (limit n : ℕ) → ((((1 ≤ n) × (n ≤ limit)) → ⊥) → ⊥) → (1 ≤ n) × (n ≤ limit)
+in-limit limit n not-out = Dec·not-not (Dec·and (decLe 1 n) (decLe n limit)) .0 not-out
+
+pub open-in-range : (s : Setting) → answer-of (open-refusals s) ≡ 0 → NumbersInRange s
+unfolding AllNumbered AllPass
+open-in-range s none =
+    let pass = zero-all-pass (open-refusals s) (omega arith, (omega arith, (omega arith, (omega arith, tt)))) none in
+    record {
+      slots = in-limit 64 (s .slots) (pass .0);
+      frame = in-limit 5040 (s .frame) (pass .1 .0);
+      gap = in-limit 255 (s .gap) (pass .1 .1 .0);
+      last = not-late (s .last) (pass .1 .1 .1 .0);
+    }
+  where
+    not-late : (n : ℕ) → (1_000_000_000 < n → ⊥) → n ≤ 1_000_000_000
+    not-late n early = omega arith
+
+-- 01: "A successful open gives a sound planner", said of what open answers and hands back.
+pub open-success-is-sound : (s : Setting) (r : Changed) → IsOpened s r → r .answer ≡ 0 → Sound (r .planner)
+open-success-is-sound s r is zero = let none = sym (is .answer) ∙ zero in fresh-is-sound s (open-in-range s none) (r .planner) (is .opened none)

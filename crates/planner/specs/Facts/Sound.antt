@@ -1,0 +1,47 @@
+-- What follows from soundness in the rules' words: the table is ready, and it has a start.
+use Prim.Native.Nat.{ℕ, _<_, _∣_}
+use native.Mathlib.Nat.{∣-prop}
+use native.Mathlib.Bridge.{le-prop}
+use Rattle.rules.specs.Streams.{Stream, due, WellFormed, IsTable}
+use Rattle.rules.specs.Demand.{DueAfter, IsLazyStart}
+use Rattle.rules.specs.Facts.Sums.{well-formed-prop, start-rule-fits}
+use Rattle.rules.specs.Ready.{AllWellFormed, Fits, IsBusy, IsReady}
+use Rattle.rules.specs.Facts.Busy.{frame-busy-under-rule}
+use Rattle.rules.specs.Facts.LazyStart.{lazy-exists}
+use Rattle.table.specs.Facts.Table.{all-streams}
+use Rattle.planner.specs.Content.{Content, content, slots-of, streams-in, now-of, cap-of}
+use Rattle.planner.specs.Sound.{ContentSound, Sound}
+use Rattle.planner.specs.Facts.Table.{ascending-is-table}
+use Rattle.planner.specs.declared.Planner.{Planner}
+
+module _ (h : Content) (sound : ContentSound h) where
+  pub all-formed : AllWellFormed (streams-in h)
+  all-formed = all-streams WellFormed well-formed-prop (h .table) (λ r m. sound .in-range .records .each r m .deadline)
+
+  pub due-after-now : DueAfter (now-of h) (streams-in h)
+  due-after-now = all-streams (λ (s : Stream). now-of h < due s) (λ s. le-prop) (h .table) (sound .near .due-after)
+
+  pub fits-now : Fits (slots-of h) (now-of h) (streams-in h)
+  fits-now = start-rule-fits (slots-of h) (now-of h) (streams-in h) all-formed (sound .start-rule) due-after-now
+
+  pub content-table : IsTable (streams-in h)
+  content-table = ascending-is-table (h .table) all-formed (sound .in-range .records .ascending)
+
+  -- the table is ready for a round
+  pub content-ready : IsReady (slots-of h) (now-of h) (streams-in h)
+  content-ready = record { table = content-table; demand-rule = sound .demand-rule; start-rule = sound .start-rule; due-after = due-after-now }
+
+  -- the frame is a busy length
+  pub frame-is-busy : IsBusy (slots-of h) (streams-in h) (h .frame)
+  frame-is-busy =
+      frame-busy-under-rule (h .frame) (sound .in-range .frame .0) (slots-of h) (streams-in h) all-formed
+      (all-streams (λ (s : Stream). s .period ∣ h .frame) (λ s. ∣-prop (s .period) (h .frame)) (h .table) (λ r m. sound .in-range .records .each r m .divides))
+      (sound .demand-rule)
+
+  -- a sound planner has a start
+  pub content-start : (s : ℕ) × IsLazyStart (slots-of h) (cap-of h) (streams-in h) s
+  content-start =
+      lazy-exists (slots-of h) (cap-of h) (h .frame) (now-of h) (streams-in h) (sound .in-range .slots .0) all-formed frame-is-busy fits-now
+
+pub sound-start : (p : Planner) → Sound p → (s : ℕ) × IsLazyStart (slots-of (content p)) (cap-of (content p)) (streams-in (content p)) s
+sound-start p sound = content-start (content p) (sound .content-sound)

@@ -8,5 +8,6 @@ use denote.Struct.Declared.{row}
 use Rattle.command.specs.declared.print.Numbers.{Numbers}
 use Rattle.command.proofs.print.Numbers
 
-pub numbers-shape : (numbers : Numbers) (vs : List Val) → Is (row Rattle.command.proofs.print.Numbers.the-type) numbers vs → length (numbers .values) ≡ 68
+pub numbers-shape : (numbers : Numbers) (vs : List Val) → Is (row Rattle.command.proofs.print.Numbers.the-type) numbers vs
+    → length (numbers .values) ≡ 68
 numbers-shape numbers vs is = let fields = is .1 .1 in sym (length-map (numbers .values) (λ v. v)) ∙ fields .0 .1 .0 .1

@@ -3,8 +3,8 @@ use mathlib.Core.Path.{_≡_}
 use mathlib.Core.List.{List, [], _∷_}
 use Prim.Native.Nat.{ℕ, _≤_}
 use lib.ListN.{length, take}
-use Rattle.planner.specs.Open.{IsOpened}
-use Rattle.planner.specs.Calls.{IsAdd, IsRemove}
+use Rattle.planner.specs.Open.{Setting, setting, IsOpened}
+use Rattle.planner.specs.AddRemove.{Offer, offer, IsAdd, IsRemove}
 use Rattle.planner.specs.Round.{IsRound}
 use Rattle.planner.specs.declared.Planner.{Planner}
 use Rattle.planner.specs.declared.Changed.{Changed}
@@ -21,15 +21,15 @@ pub record Gives (p : Planner) (l : ℕ) (ns : List ℕ) (r : Answered) : Type 0
   pub few : r .numbers .count ≤ 68
 
 -- 01: "Fields: letter, (id), answer". Letters are bytes: O is 79, A 65, D 68, R 82, E 69.
-pub record IsOpenGiven (b f g t : ℕ) (r : Answered) : Type 0 where
+pub record IsOpenGiven (s : Setting) (r : Answered) : Type 0 where
   pub done : Changed
-  pub by-contract : IsOpened b f g t done
+  pub by-contract : IsOpened s done
   pub given : Gives (done .planner) 79 (done .answer ∷ []) r
 
-pub record IsAddGiven (p : Planner) (id start period deadline : ℕ) (r : Answered) : Type 0 where
+pub record IsAddGiven (p : Planner) (o : Offer) (r : Answered) : Type 0 where
   pub done : Changed
-  pub by-contract : IsAdd p id start period deadline done
-  pub given : Gives (done .planner) 65 (id ∷ done .answer ∷ []) r
+  pub by-contract : IsAdd p o done
+  pub given : Gives (done .planner) 65 (o .id ∷ done .answer ∷ []) r
 
 pub record IsRemoveGiven (p : Planner) (id : ℕ) (r : Answered) : Type 0 where
   pub done : Changed
@@ -48,8 +48,8 @@ pub record IsRoundGiven (p : Planner) (r : Answered) : Type 0 where
 
 -- 01: "Any other line .. prints E,20 and its line number from 1." The planner stays.
 abbrev pub IsAnswered : Planner → ℕ → Command → Answered → Type 0
-IsAnswered p number (Open b f g t) r = IsOpenGiven b f g t r
-IsAnswered p number (Add id start period deadline) r = IsAddGiven p id start period deadline r
+IsAnswered p number (Open b f g t) r = IsOpenGiven (setting b f g t) r
+IsAnswered p number (Add id start period deadline) r = IsAddGiven p (offer id start period deadline) r
 IsAnswered p number (Remove id) r = IsRemoveGiven p id r
 IsAnswered p number Round r = IsRoundGiven p r
 IsAnswered p number Malformed r = Gives p 69 (20 ∷ number ∷ []) r

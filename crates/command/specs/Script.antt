@@ -2,13 +2,13 @@
 use mathlib.Core.Path.{_≡_}
 use mathlib.Core.List.{List}
 use Prim.Native.Nat.{ℕ}
-use Rattle.planner.specs.Open.{IsFresh}
+use Rattle.planner.specs.Open.{zeros, IsFresh}
 use Rattle.command.specs.Runs.{HasRun, HasRunLast}
 use Rattle.command.specs.declared.lines.Reached.{Reached}
 
 -- 01: "Until an O succeeds the planner is closed." No line has been read, and nothing written.
 pub record IsBeginning (s : Reached) : Type 0 where
-  pub closed : IsFresh 0 0 0 0 (s .planner)
+  pub closed : IsFresh zeros (s .planner)
   pub number : s .number ≡ 0
   pub from : s .from ≡ 0
   pub end : s .end ≡ 0

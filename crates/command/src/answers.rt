@@ -3,6 +3,8 @@ ghost use mathlib.Core.Path.{_≡_};
 ghost use mathlib.Core.List.{[], _∷_};
 ghost use Prim.Native.Nat.{_≤_};
 ghost use lib.ListN.{take};
+ghost use Rattle.planner.specs.Open.{setting};
+ghost use Rattle.planner.specs.AddRemove.{offer};
 ghost use Rattle.command.specs.Answers.{Gives, IsOpenGiven, IsAddGiven, IsRemoveGiven, IsRoundGiven, IsAnswered};
 use super::Command;
 use super::print::Numbers;
@@ -78,7 +80,7 @@ fn held(done: Rounded, ids: [u16; 64]) -> Answered
 }
 
 fn opened(slots: u32, frame: u32, gap: u32, last: u32) -> Answered
-    ensures { λ r. ⌜ IsOpenGiven slots frame gap last r ⌝ }
+    ensures { λ r. ⌜ IsOpenGiven (setting slots frame gap last) r ⌝ }
 {
     let done = planner::open(slots, frame, gap, last);
     let after = done.planner;
@@ -86,7 +88,7 @@ fn opened(slots: u32, frame: u32, gap: u32, last: u32) -> Answered
 }
 
 fn added(planner: Planner, id: u32, start: u32, period: u32, deadline: u32) -> Answered
-    ensures { λ r. ⌜ IsAddGiven planner id start period deadline r ⌝ }
+    ensures { λ r. ⌜ IsAddGiven planner (offer id start period deadline) r ⌝ }
 {
     let done = planner::add(planner, id, start, period, deadline);
     let after = done.planner;

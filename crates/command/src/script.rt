@@ -1,5 +1,5 @@
 // A whole script from memory.
-ghost use Rattle.planner.specs.Open.{IsFresh};
+ghost use Rattle.planner.specs.Open.{zeros, IsFresh};
 ghost use Rattle.command.specs.Script.{IsBeginning, IsScript};
 use super::lines::Reached;
 use super::lines::run_last_in_range;
@@ -8,7 +8,7 @@ use planner::Planner;
 
 // The closed planner: what a refused opening gives.
 fn closed() -> Planner
-    ensures { λ r. ⌜ IsFresh 0 0 0 0 r ⌝ }
+    ensures { λ r. ⌜ IsFresh zeros r ⌝ }
 {
     let done = planner::open(0, 0, 0, 0);
     let planner = done.planner;

@@ -4,7 +4,7 @@ use mathlib.Core.Logic.{_⊎_}
 use mathlib.Core.List.{List, [], _∷_, _++_}
 use Prim.Native.Nat.{ℕ, _+_, _≤_}
 use lib.ListN.{length, take}
-use Rattle.planner.specs.Open.{IsFresh}
+use Rattle.planner.specs.Open.{zeros, IsFresh}
 use Rattle.planner.specs.declared.Planner.{Planner}
 use Rattle.command.specs.Commands.{Says}
 use Rattle.command.specs.Answers.{IsAnswered}
@@ -44,7 +44,7 @@ pub record IsCut (kept rest : List ℕ) : Type 0 where
 -- All bytes read are whole lines and a rest. The lines have been answered, from the closed planner on; p, after n lines, is what they left.
 pub record AreAnswered (read written : List ℕ) (p : Planner) (n : ℕ) (rest : List ℕ) : Type 0 where
   pub first : Planner
-  pub closed : IsFresh 0 0 0 0 first
+  pub closed : IsFresh zeros first
   pub lines : List ℕ
   pub all : read ≡ lines ++ rest
   pub transcript : Transcript first lines written p n

@@ -1,12 +1,10 @@
--- The three demands, and a held round as a packet. A reader has to believe Calls, Rivals and the statements of One, Two, Three and Packets, with the
--- definitions that they cite.
-pub mod Calls
+-- The three demands, a held round as a packet, and the cases of the documents. A reader has to believe CallLists, Rivals and the statements of
+-- One, Two, Three, Packets and Cases, with the definitions that they cite; Facts proves them.
+pub mod CallLists
 pub mod Rivals
 pub mod One
 pub mod Two
 pub mod Three
 pub mod Packets
-pub mod CallFacts
-pub mod HeldFacts
-pub mod CaseFacts
 pub mod Cases
+pub mod Facts

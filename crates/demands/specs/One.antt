@@ -2,32 +2,30 @@
 -- first number that applies and leaves planner and slot buffer unchanged; a refused opening gives a closed planner."
 -- That calls end and stay inside their buffers is what the checker proves of every function, and none of these four has a `requires`. The queue's
 -- calls and superframe say the same in their own contracts; `filled` refuses nothing.
-use mathlib.Core.Path.{_≡_, sym, _∙_}
+use mathlib.Core.Path.{_≡_}
 use mathlib.Core.List.{List}
 use Prim.Native.Nat.{ℕ}
 use Rattle.basics.specs.Refusals.{FirstOf}
 use Rattle.planner.specs.Content.{content}
 use Rattle.planner.specs.Sound.{Sound}
-use Rattle.planner.specs.Open.{open-refusals, opened, IsFresh, IsOpened}
-use Rattle.planner.specs.OpenFacts.{open-success-is-sound, closed-is-not-sound}
-use Rattle.planner.specs.Calls.{add-refusals, remove-refusals, IsAdd, IsRemove}
+use Rattle.planner.specs.Open.{Setting, zeros, open-refusals, opened, IsFresh, IsOpened}
+use Rattle.planner.specs.AddRemove.{Offer, add-refusals, remove-refusals, IsAdd, IsRemove}
 use Rattle.planner.specs.Round.{round-refusals, IsRefusedRound, IsRound}
-use Rattle.planner.specs.CallFacts.{answers-first, refused-change, change-keeps-sound, refused-round, round-keeps-sound}
 use Rattle.planner.specs.declared.Planner.{Planner}
 use Rattle.planner.specs.declared.Changed.{Changed}
 use Rattle.planner.specs.declared.Rounded.{Rounded}
 
 -- Open: the first number that applies, else 0; success gives a sound planner with L = T and no stream, a refusal the closed one.
-pub record OpenMeets (b f g t : ℕ) (r : Changed) : Type 1 where
-  pub answer : FirstOf (open-refusals b f g t) (r .answer)
+pub record OpenMeets (s : Setting) (r : Changed) : Type 1 where
+  pub answer : FirstOf (open-refusals s) (r .answer)
   pub sound : r .answer ≡ 0 → Sound (r .planner)
-  pub opened : r .answer ≡ 0 → content (r .planner) ≡ opened b f g t
-  pub closed : (r .answer ≡ 0 → ⊥) → IsFresh 0 0 0 0 (r .planner)
+  pub opened : r .answer ≡ 0 → content (r .planner) ≡ opened s
+  pub closed : (r .answer ≡ 0 → ⊥) → IsFresh zeros (r .planner)
   pub not-sound : (r .answer ≡ 0 → ⊥) → Sound (r .planner) → ⊥
 
 -- Add: the first number that applies, else 0; a refusal changes nothing, and a sound planner stays sound.
-pub record AddMeets (p : Planner) (id start period deadline : ℕ) (r : Changed) : Type 1 where
-  pub answer : FirstOf (add-refusals p id start period deadline) (r .answer)
+pub record AddMeets (p : Planner) (o : Offer) (r : Changed) : Type 1 where
+  pub answer : FirstOf (add-refusals p o) (r .answer)
   pub unchanged : (r .answer ≡ 0 → ⊥) → r .planner ≡ p
   pub sound : Sound p → Sound (r .planner)
 
@@ -44,24 +42,7 @@ pub record RoundMeets (p : Planner) (before after : List ℕ) (r : Rounded) : Ty
 
 -- All four calls, on every input, by the contracts that their code is proved to meet.
 pub record Demand1 : Type 1 where
-  pub open-meets : (b f g t : ℕ) (r : Changed) → IsOpened b f g t r → OpenMeets b f g t r
-  pub add-meets : (p : Planner) (id start period deadline : ℕ) (r : Changed) → IsAdd p id start period deadline r → AddMeets p id start period deadline r
+  pub open-meets : (s : Setting) (r : Changed) → IsOpened s r → OpenMeets s r
+  pub add-meets : (p : Planner) (o : Offer) (r : Changed) → IsAdd p o r → AddMeets p o r
   pub remove-meets : (p : Planner) (id : ℕ) (r : Changed) → IsRemove p id r → RemoveMeets p id r
   pub round-meets : (p : Planner) (before after : List ℕ) (r : Rounded) → IsRound p before after r → RoundMeets p before after r
-
-pub demand-1 : Demand1
-demand-1 =
-    record {
-      open-meets = λ b f g t r is.
-          let refused : (r .answer ≡ 0 → ⊥) → IsFresh 0 0 0 0 (r .planner) = λ nonzero. is .closed (λ zero. nonzero (is .answer ∙ zero)) in
-          record {
-            answer = answers-first (is .answer);
-            sound = open-success-is-sound b f g t r is;
-            opened = λ zero. is .opened (sym (is .answer) ∙ zero) .holds;
-            closed = refused;
-            not-sound = λ nonzero. closed-is-not-sound (r .planner) (refused nonzero);
-          };
-      add-meets = λ p id start period deadline r is. record { answer = answers-first (is .answer); unchanged = refused-change is; sound = change-keeps-sound is };
-      remove-meets = λ p id r is. record { answer = answers-first (is .answer); unchanged = refused-change is; sound = change-keeps-sound is };
-      round-meets = λ p before after r is. record { answer = answers-first (is .answer); unchanged = refused-round is; sound = round-keeps-sound is };
-    }

@@ -1,19 +1,19 @@
 -- What the forms over a lent planner promise: the same as the calls by value, with the planner behind the reference at exit.
 use mathlib.Core.List.{List}
 use Prim.Native.Nat.{ℕ}
-use Rattle.planner.specs.Open.{IsOpened}
-use Rattle.planner.specs.Calls.{IsAdd, IsRemove}
+use Rattle.planner.specs.Open.{Setting, IsOpened}
+use Rattle.planner.specs.AddRemove.{Offer, IsAdd, IsRemove}
 use Rattle.planner.specs.Round.{IsRound}
 use Rattle.planner.specs.declared.Planner.{Planner}
 use Rattle.lent.specs.declared.Held.{Held}
 
 -- The answer, and the planner at exit, are those of open.
-abbrev pub IsLentOpen : ℕ → ℕ → ℕ → ℕ → Planner → ℕ → Type 0
-IsLentOpen slots frame gap last after r = IsOpened slots frame gap last (record { answer = r; planner = after })
+abbrev pub IsLentOpen : Setting → Planner → ℕ → Type 0
+IsLentOpen s after r = IsOpened s (record { answer = r; planner = after })
 
 -- The same for add.
-abbrev pub IsLentAdd : Planner → ℕ → ℕ → ℕ → ℕ → Planner → ℕ → Type 0
-IsLentAdd before id start period deadline after r = IsAdd before id start period deadline (record { answer = r; planner = after })
+abbrev pub IsLentAdd : Planner → Offer → Planner → ℕ → Type 0
+IsLentAdd before o after r = IsAdd before o (record { answer = r; planner = after })
 
 -- The same for remove.
 abbrev pub IsLentRemove : Planner → ℕ → Planner → ℕ → Type 0

@@ -2,6 +2,8 @@
 // 01: a refused call writes nothing. So add, remove and round store the planner only where the answer is 0; open stores always.
 ghost use mathlib.Core.Path.{_≡_};
 ghost use lib.ListN.{length, take};
+ghost use Rattle.planner.specs.Open.{setting};
+ghost use Rattle.planner.specs.AddRemove.{offer};
 ghost use Rattle.lent.specs.Lent.{IsLentOpen, IsLentAdd, IsLentRemove, IsLentRound};
 use planner::Planner;
 
@@ -16,7 +18,7 @@ pub struct Held {
 // Opens the lent planner, whatever it held; the answer is that of open.
 #[no_mangle]
 pub extern "C" fn planner_open(p: &mut Planner, slots: u32, frame: u32, gap: u32, last: u32) -> u32
-    ensures { λ r. ⌜ IsLentOpen slots frame gap last (now (p .exit)) r ⌝ }
+    ensures { λ r. ⌜ IsLentOpen (setting slots frame gap last) (now (p .exit)) r ⌝ }
 {
     let opened = planner::open(slots, frame, gap, last);
     *p = opened.planner;
@@ -32,7 +34,7 @@ pub extern "C" fn planner_add(
     period: u32,
     deadline: u32,
 ) -> u32
-    ensures { λ r. ⌜ IsLentAdd (now (p .entry)) id start period deadline (now (p .exit)) r ⌝ }
+    ensures { λ r. ⌜ IsLentAdd (now (p .entry)) (offer id start period deadline) (now (p .exit)) r ⌝ }
 {
     let added = planner::add(*p, id, start, period, deadline);
     if added.answer == 0 {

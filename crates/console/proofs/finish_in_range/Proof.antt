@@ -13,7 +13,12 @@ slice-reshare-prefix-write-answers : tie.Need-slice-reshare-prefix-write-answers
 slice-reshare-prefix-write-answers c = search needs
 
 slice-aggregate-write-answers : tie.Need-slice-aggregate-write-answers
-slice-aggregate-write-answers c = sym (length-take-le (c .before .before .before .before .answer-last-in-range .result .reached .end) (c .before .before .before .before .answer-last-in-range .last .1 .1 .0) (omega (arith, c .before .before .before .before .answer-last-in-range .ensures .end, c .before .before .before .before .answer-last-in-range .kept .1 .1 .0, c .before .before .before .before .before .before .before .before .pre .can-answer .room)))
+slice-aggregate-write-answers c =
+    let start = c .before .before .before .before .before .before .before .before in
+    let answered = c .before .before .before .before .answer-last-in-range in
+    let end = answered .result .reached .end in
+    let out = answered .last .1 .1 .0 in
+    sym (length-take-le end out (omega (arith, answered .ensures .end, answered .kept .1 .1 .0, start .pre .can-answer .room)))
 
 write-answers-requires : tie.Need-write-answers-requires
 write-answers-requires c κs = search needs

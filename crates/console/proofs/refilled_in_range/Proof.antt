@@ -4,7 +4,7 @@ use Prim.Native.Nat.{_-_, _≤_}
 use native.Mathlib.Omega.{arith}
 use lib.ListN.{length}
 use borrow.Rule.Slice.PartMut.{take-put}
-use Rattle.console.specs.SessionFacts.{kept-refilled, within-part}
+use Rattle.console.specs.Facts.Session.{kept-refilled, within-part}
 use borrow.Author.Needs.{needs}
 use Rattle.console.proofs.refilled_in_range.Statement.{statement}
 use Rattle.console.proofs.refilled_in_range.Tie as tie
@@ -35,12 +35,14 @@ returns c =
     let start = c .before .before .before .before .before .before .before .before .before .before in
     let kept = c .before .before .before .before .before .before .before .keep-rest-in-range in
     let got = c .before .before .read-input in
-    let room = length (kept .last .1 .0) - kept .result .have in
-    let have-fits : kept .result .have ≤ length (kept .last .1 .0) = omega (arith, kept .ensures .have, kept .kept .1 .0, start .pre .can-keep .places) in
-    let few = within-part (kept .last .1 .0) (kept .result .have) room (got .result .count) (got .ensures .few) (omega (arith, kept .ensures .have))
-    (kept .kept .1 .0 ∙ start .pre .can-keep .places) in
-    kept-refilled (start .args .s) (kept .result) (start .args .input .now) _ _ (kept .ensures) (start .pre)
-    (take-put (kept .result .have) room (kept .last .1 .0) (got .last .0) have-fits) _ _ _ _ few (got .ensures .at-end)
+    let have = kept .result .have in
+    let input = kept .last .1 .0 in
+    let places = kept .kept .1 .0 ∙ start .pre .can-keep .places in
+    let room = length input - have in
+    let have-fits : have ≤ length input = omega (arith, kept .ensures .have, places) in
+    let few = within-part input have room (got .result .count) (got .ensures .few) (omega (arith, kept .ensures .have)) places in
+    let same = take-put have room input (got .last .0) have-fits in
+    kept-refilled (kept .ensures) (start .pre) _ same _ _ _ _ few (got .ensures .at-end)
 
 pub refilled-in-range-spec : {M : Type 1} → statement M
 refilled-in-range-spec =

@@ -2,12 +2,13 @@
 use mathlib.Core.Path.{_≡_, sym, _∙_}
 use lib.ListN.{length}
 use borrow.Author.Needs.{needs}
-use Rattle.console.specs.SessionFacts.{Going, begun-going, can-turn, gone-on, can-finish}
+use Rattle.console.specs.Facts.Turns.{Going, begun-going, can-turn, gone-on, can-finish}
 use Rattle.console.proofs.run.Statement.{statement}
 use Rattle.console.proofs.run.Tie as tie
 
 abbrev Inv-loop : tie.InvT-loop
-Inv-loop input₀ out₀ s₀ more₀ ended₀ turns₀ input out s more ended turns = ((65536 ≡ length input) × (65536 ≡ length out)) × Going s ended input turns
+Inv-loop input₀ out₀ s₀ more₀ ended₀ turns₀ input out s more ended turns =
+    ((65536 ≡ length input) × (65536 ≡ length out)) × Going s ended input turns
 
 abbrev μ-loop : tie.MeasureT-loop
 μ-loop input₀ out₀ s₀ more₀ ended₀ turns₀ input out s more ended turns = turns
@@ -22,7 +23,7 @@ begun-requires : tie.Need-begun-requires Inv-loop μ-loop
 begun-requires c κs = search needs
 
 loop-holds : tie.Need-loop-holds Inv-loop μ-loop
-loop-holds c = ((c .before .before .large-buffer .ensures, c .before .large-buffer2 .ensures), begun-going _ (c .begun .ensures) _)
+loop-holds c = ((c .before .before .large-buffer .ensures, c .before .large-buffer2 .ensures), begun-going (c .begun .ensures))
 
 slice-aggregate-turn-in-range : tie.Need-slice-aggregate-turn-in-range Inv-loop μ-loop
 slice-aggregate-turn-in-range c = c .before .before .loop .inv .0 .0
@@ -31,7 +32,9 @@ slice-aggregate-turn-in-range-2 : tie.Need-slice-aggregate-turn-in-range-2 Inv-l
 slice-aggregate-turn-in-range-2 c = c .before .before .before .loop .inv .0 .1
 
 turn-in-range-requires : tie.Need-turn-in-range-requires Inv-loop μ-loop
-turn-in-range-requires c κs = can-turn _ _ _ _ (c .before .before .before .loop .inv .1) _ (sym (c .before .before .before .loop .inv .0 .0)) (sym (c .before .before .before .loop .inv .0 .1))
+turn-in-range-requires c κs =
+    let ((places, room), going) = c .before .before .before .loop .inv in
+    can-turn going (sym places) (sym room)
 
 turns-left-in-range-requires : tie.Need-turns-left-in-range-requires Inv-loop μ-loop
 turns-left-in-range-requires c κs = search needs
@@ -40,7 +43,10 @@ loop-less : tie.Need-loop-less Inv-loop μ-loop
 loop-less c = c .turns-left-in-range .ensures
 
 loop-again : tie.Need-loop-again Inv-loop μ-loop
-loop-again c = ((c .before .before .before .before .before .before .before .before .loop .inv .0 .0 ∙ sym (c .before .before .before .before .turn-in-range .kept .1 .0), c .before .before .before .before .before .before .before .before .loop .inv .0 .1 ∙ sym (c .before .before .before .before .turn-in-range .kept .1 .1 .0)), gone-on _ _ _ _ (c .before .before .before .before .before .before .before .before .loop .inv .1) _ _ _ (c .before .before .before .before .turn-in-range .ensures) _ (c .turns-left-in-range .ensures))
+loop-again c =
+    let ((places, room), going) = c .before .before .before .before .before .before .before .before .loop .inv in
+    let turn = c .before .before .before .before .turn-in-range in
+    ((places ∙ sym (turn .kept .1 .0), room ∙ sym (turn .kept .1 .1 .0)), gone-on going (turn .ensures) (c .turns-left-in-range .ensures))
 
 slice-aggregate-finish-in-range : tie.Need-slice-aggregate-finish-in-range Inv-loop μ-loop
 slice-aggregate-finish-in-range c = c .before .before .before .loop .inv .0 .0
@@ -49,7 +55,9 @@ slice-aggregate-finish-in-range-2 : tie.Need-slice-aggregate-finish-in-range-2 I
 slice-aggregate-finish-in-range-2 c = c .before .before .before .before .loop .inv .0 .1
 
 finish-in-range-requires : tie.Need-finish-in-range-requires Inv-loop μ-loop
-finish-in-range-requires c κs = can-finish _ _ _ _ (c .before .before .before .before .loop .inv .1) _ (sym (c .before .before .before .before .loop .inv .0 .0)) (sym (c .before .before .before .before .loop .inv .0 .1)) (c .before .before .if1 .taken)
+finish-in-range-requires c κs =
+    let ((places, room), going) = c .before .before .before .before .loop .inv in
+    can-finish going (sym places) (sym room) (c .before .before .if1 .taken)
 
 say-used-up-requires : tie.Need-say-used-up-requires Inv-loop μ-loop
 say-used-up-requires c κs = search needs

@@ -5,7 +5,7 @@ use Prim.Native.Nat.{_-_}
 use lib.ListN.{length}
 use lib.Seq.{length-take-le}
 use borrow.Author.Tests.{leb-true}
-use Rattle.console.specs.SessionFacts.{can-refill, refilled-turned, stayed-turned}
+use Rattle.console.specs.Facts.Session.{can-refill, refilled-turned, stayed-turned}
 use borrow.Author.Needs.{needs}
 use Rattle.console.proofs.turn_in_range.Statement.{statement}
 use Rattle.console.proofs.turn_in_range.Tie as tie
@@ -17,7 +17,12 @@ slice-reshare-prefix-write-answers : tie.Need-slice-reshare-prefix-write-answers
 slice-reshare-prefix-write-answers c = search needs
 
 slice-aggregate-write-answers : tie.Need-slice-aggregate-write-answers
-slice-aggregate-write-answers c = sym (length-take-le (c .before .before .before .before .answer-lines-in-range .result .reached .end) (c .before .before .before .before .answer-lines-in-range .last .1 .1 .0) (omega (arith, c .before .before .before .before .answer-lines-in-range .ensures .end, c .before .before .before .before .answer-lines-in-range .kept .1 .1 .0, c .before .before .before .before .before .before .before .before .before .pre .room)))
+slice-aggregate-write-answers c =
+    let start = c .before .before .before .before .before .before .before .before .before in
+    let answered = c .before .before .before .before .answer-lines-in-range in
+    let end = answered .result .reached .end in
+    let out = answered .last .1 .1 .0 in
+    sym (length-take-le end out (omega (arith, answered .ensures .end, answered .kept .1 .1 .0, start .pre .room)))
 
 write-answers-requires : tie.Need-write-answers-requires
 write-answers-requires c κs = search needs
@@ -33,7 +38,7 @@ refilled-in-range-requires c κs =
     let start = c .before .before .before .before .before .before .before .before .before .before .before .before .before .before in
     let answered = c .before .before .before .before .before .before .before .before .before .answer-lines-in-range in
     let room = leb-true 1430 (length (answered .last .1 .1 .0) - answered .result .reached .end) (c .before .if2 .taken) in
-    can-refill _ _ _ _ (answered .ensures) _ (c .before .before .before .handed-over .ensures) (start .pre .places)
+    can-refill (answered .ensures) (c .before .before .before .handed-over .ensures) (start .pre .places)
     (omega (arith, room, answered .kept .1 .1 .0, start .pre .room))
 
 same-length : tie.Need-same-length
@@ -43,7 +48,10 @@ same-length-2 : tie.Need-same-length-2
 same-length-2 c = search needs
 
 returns : tie.Need-returns
-returns c = refilled-turned _ _ _ _ (c .before .before .before .before .before .before .before .before .before .before .before .before .answer-lines-in-range .ensures) _ (c .before .before .before .before .before .before .handed-over .ensures) _ _ (c .before .before .refilled-in-range .ensures)
+returns c =
+    let answered = c .before .before .before .before .before .before .before .before .before .before .before .before .answer-lines-in-range in
+    let over = c .before .before .before .before .before .before .handed-over in
+    refilled-turned (answered .ensures) (over .ensures) (c .before .before .refilled-in-range .ensures)
 
 same-length-3 : tie.Need-same-length-3
 same-length-3 c = search needs
@@ -52,7 +60,9 @@ same-length-4 : tie.Need-same-length-4
 same-length-4 c = search needs
 
 returns-2 : tie.Need-returns-2
-returns-2 c = stayed-turned _ _ _ _ (c .before .before .before .before .before .before .before .answer-lines-in-range .ensures) _ (c .before .handed-over .ensures) _
+returns-2 c =
+    let answered = c .before .before .before .before .before .before .before .answer-lines-in-range in
+    stayed-turned (answered .ensures) (c .before .handed-over .ensures) _
 
 pub turn-in-range-spec : {M : Type 1} → statement M
 turn-in-range-spec =

@@ -5,11 +5,9 @@ use borrow.Author.Needs.{needs}
 use Rattle.lent.proofs.planner_filled.Statement.{statement}
 use Rattle.lent.proofs.planner_filled.Tie as tie
 
--- src/lib.rt:82:5
 filled-requires : tie.Need-filled-requires
 filled-requires c κs = search needs
 
--- src/lib.rt:79:1
 returns : tie.Need-returns
 returns c = ap length (c .filled .ensures)
 

@@ -5,7 +5,7 @@ use native.Mathlib.Omega.{arith}
 use mir.Syntax.{w16}
 use borrow.Kind.Array.{good-length, eInt}
 use borrow.Author.Needs.{needs}
-use Rattle.command.specs.AnswerFacts.{Copied, none-copied, one-more-copied, all-copied}
+use Rattle.command.specs.Facts.Answers.{Copied, none-copied, one-more-copied, all-copied}
 use Rattle.command.proofs.answers.held.Statement.{statement}
 use Rattle.command.proofs.answers.held.Tie as tie
 
@@ -31,7 +31,7 @@ cast-n : tie.Need-cast-n Inv-loop μ-loop
 cast-n c = search needs
 
 loop-holds : tie.Need-loop-holds Inv-loop μ-loop
-loop-holds c = (omega arith, none-copied (c .before .before .before .before .args .t2) _ refl)
+loop-holds c = (omega arith, none-copied refl)
 
 mul-wide : tie.Need-mul-wide Inv-loop μ-loop
 mul-wide c = omega arith
@@ -58,13 +58,24 @@ loop-less : tie.Need-loop-less Inv-loop μ-loop
 loop-less c = omega arith
 
 loop-again : tie.Need-loop-again Inv-loop μ-loop
-loop-again c = (omega arith, one-more-copied (c .before .before .before .before .before .before .before .args .t2) _ _ _ _ (good-length (eInt w16) 64 (c .before .before .before .before .before .before .before .args .t2) _ (c .before .before .before .before .before .before .before .good .1 .0)) refl (omega arith) (c .before .before .loop .inv .1) (c .wide .ensures))
+loop-again c =
+    let start = c .before .before .before .before .before .before .before in
+    let sixty-four = good-length (eInt w16) 64 (start .args .t2) _ (start .good .1 .0) in
+    (omega arith, one-more-copied sixty-four refl (omega arith) (c .before .before .loop .inv .1) (c .wide .ensures))
 
 add-t25 : tie.Need-add-t25 Inv-loop μ-loop
 add-t25 c = omega arith
 
 returns : tie.Need-returns Inv-loop μ-loop
-returns c = record { planner = refl; letter = refl; numbers = all-copied (c .before .before .before .before .before .before .args .t2) _ _ _ _ (good-length (eInt w16) 64 (c .before .before .before .before .before .before .args .t2) _ (c .before .before .before .before .before .before .good .1 .0)) refl (c .before .before .before .before .before .before .pre) (omega arith) (c .before .loop .inv .1); few = omega arith }
+returns c =
+    let start = c .before .before .before .before .before .before in
+    let sixty-four = good-length (eInt w16) 64 (start .args .t2) _ (start .good .1 .0) in
+    record {
+      planner = refl;
+      letter = refl;
+      numbers = all-copied sixty-four refl (start .pre) (omega arith) (c .before .loop .inv .1);
+      few = omega arith;
+    }
 
 pub held-spec : {M : Type 1} → statement M
 held-spec =

@@ -1,6 +1,6 @@
 -- `command::answers::rounded` meets its contract: the ids stand in the first n of 64 places.
 use mathlib.Core.Path.{refl}
-use Rattle.command.specs.AnswerFacts.{few-ids}
+use Rattle.command.specs.Facts.Answers.{few-ids}
 use borrow.Author.Needs.{needs}
 use Rattle.command.proofs.answers.rounded.Statement.{statement}
 use Rattle.command.proofs.answers.rounded.Tie as tie
@@ -18,13 +18,33 @@ one-requires : tie.Need-one-requires
 one-requires c κs = search needs
 
 returns : tie.Need-returns
-returns c = record { done = c .before .before .before .before .before .before .round .result; before = _; after = _; places = refl; by-contract = c .before .before .before .before .before .before .round .ensures; held = λ zero. absurd (c .before .before .before .if1 .taken zero); refused = λ _. c .one .ensures }
+returns c =
+    let round = c .before .before .before .before .before .before .round in
+    record {
+      done = round .result;
+      before = _;
+      after = _;
+      places = refl;
+      by-contract = round .ensures;
+      held = λ zero. absurd (c .before .before .before .if1 .taken zero);
+      refused = λ _. c .one .ensures;
+    }
 
 held-requires : tie.Need-held-requires
-held-requires c κs = few-ids _ _ _ _ (c .before .before .before .round .ensures) (c .if1 .left)
+held-requires c κs = few-ids (c .before .before .before .round .ensures) (c .if1 .left)
 
 returns-2 : tie.Need-returns-2
-returns-2 c = record { done = c .before .before .before .before .round .result; before = _; after = _; places = refl; by-contract = c .before .before .before .before .round .ensures; held = λ _. c .held .ensures; refused = λ some. absurd (some (c .before .if1 .left)) }
+returns-2 c =
+    let round = c .before .before .before .before .round in
+    record {
+      done = round .result;
+      before = _;
+      after = _;
+      places = refl;
+      by-contract = round .ensures;
+      held = λ _. c .held .ensures;
+      refused = λ some. absurd (some (c .before .if1 .left));
+    }
 
 pub rounded-spec : {M : Type 1} → statement M
 rounded-spec =

@@ -4,7 +4,8 @@ use native.Mathlib.Nat.{lt-irrefl}
 use native.Mathlib.Omega.{arith}
 use lib.ListN.{length}
 use borrow.Author.Needs.{needs}
-use Rattle.command.specs.Lines.{NoEnd, none-seen, one-more-seen}
+use Rattle.command.specs.Lines.{NoEnd}
+use Rattle.command.specs.Facts.LineEnds.{none-seen, one-more-seen}
 use Rattle.command.proofs.lines.line_end_in_range.Statement.{statement}
 use Rattle.command.proofs.lines.line_end_in_range.Tie as tie
 
@@ -21,7 +22,9 @@ shared-slice-read-if1 : tie.Need-shared-slice-read-if1 Inv-loop μ-loop
 shared-slice-read-if1 c = c .before .loop-test .taken
 
 returns : tie.Need-returns Inv-loop μ-loop
-returns c = record { after = c .before .before .before .loop .inv .0; within = c .before .before .before .loop .inv .1 .0; before = c .before .before .before .loop .inv .1 .1; ends = λ inside. c .if1 .taken }
+returns c =
+    let inv = c .before .before .before .loop .inv in
+    record { after = inv .0; within = inv .1 .0; before = inv .1 .1; ends = λ inside. c .if1 .taken }
 
 add-i : tie.Need-add-i Inv-loop μ-loop
 add-i c = search needs
@@ -30,10 +33,21 @@ loop-less : tie.Need-loop-less Inv-loop μ-loop
 loop-less c = omega arith
 
 loop-again : tie.Need-loop-again Inv-loop μ-loop
-loop-again c = (omega (arith, c .before .before .before .loop .inv .0), (omega arith, one-more-seen (c .before .before .before .before .args .bytes .now) _ _ (c .before .before .before .loop .inv .1 .1) (c .if1 .left)))
+loop-again c =
+    let bytes = c .before .before .before .before .args .bytes .now in
+    let inv = c .before .before .before .loop .inv in
+    (omega (arith, inv .0), (omega arith, one-more-seen bytes _ _ (inv .1 .1) (c .if1 .left)))
 
 returns-2 : tie.Need-returns-2 Inv-loop μ-loop
-returns-2 c = record { after = c .before .loop .inv .0; within = c .before .loop .inv .1 .0; before = c .before .loop .inv .1 .1; ends = λ inside. absurd (lt-irrefl (length (c .before .before .args .bytes .now)) (omega (arith, inside, c .loop-test .left))) }
+returns-2 c =
+    let bytes = c .before .before .args .bytes .now in
+    let inv = c .before .loop .inv in
+    record {
+      after = inv .0;
+      within = inv .1 .0;
+      before = inv .1 .1;
+      ends = λ inside. absurd (lt-irrefl (length bytes) (omega (arith, inside, c .loop-test .left)));
+    }
 
 pub line-end-in-range-spec : {M : Type 1} → statement M
 line-end-in-range-spec =

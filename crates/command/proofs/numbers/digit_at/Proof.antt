@@ -3,7 +3,7 @@ use native.Mathlib.Nat.{lt-irrefl}
 use native.Mathlib.Omega.{arith}
 use borrow.Author.Needs.{needs}
 use Rattle.command.specs.Reads.{at-end, before-other}
-use Rattle.command.specs.NumberFacts.{no-digit-at}
+use Rattle.command.specs.Facts.Numbers.{no-digit-at}
 use Rattle.command.proofs.numbers.digit_at.Statement.{statement}
 use Rattle.command.proofs.numbers.digit_at.Tie as tie
 

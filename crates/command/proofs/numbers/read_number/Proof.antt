@@ -1,4 +1,5 @@
--- `command::numbers::read_number` meets its contract: the bytes before i are a numeral of this value, and digit is what stands at i; a digit after a lone 0, and a value past 32 bits, begin no number.
+-- `command::numbers::read_number` meets its contract: the bytes before i are a numeral of this value, and digit is what stands at i;
+-- a digit after a lone 0, and a value past 32 bits, begin no number.
 use mathlib.Core.Logic.{inr, ⊎-elim}
 use Prim.Native.Nat.{_+_, _-_, _*_}
 use native.Mathlib.Nat.{lt-irrefl}
@@ -7,7 +8,7 @@ use borrow.Author.Tests.{eqb-true, eqb-false}
 use lib.ListN.{length, take}
 use Rattle.command.specs.Text.{IsNumeral}
 use Rattle.command.specs.Reads.{IsDigitAt}
-use Rattle.command.specs.NumberFacts.{IsReadTo, none-read, some-read, no-digit, digit-more, leading-zero, too-large}
+use Rattle.command.specs.Facts.Numbers.{IsReadTo, none-read, some-read, no-digit, digit-more, leading-zero, too-large}
 use Rattle.command.proofs.numbers.read_number.Statement.{statement}
 use Rattle.command.proofs.numbers.read_number.Tie as tie
 
@@ -52,32 +53,42 @@ returns-2 c =
     too-large (loop .i + 1) (omega arith) (omega (arith, inside)) (longer (c .before)) (omega (arith, c .if3 .taken))
 
 add-i : tie.Need-add-i Inv-loop μ-loop
-add-i c = omega (arith, c .before .before .before .loop .inv .1 .digit (c .before .before .loop-test .taken))
+add-i c =
+    let digit = c .before .before .before .loop .inv .1 in
+    omega (arith, digit .digit (c .before .before .loop-test .taken))
 
 digit-at-requires-2 : tie.Need-digit-at-requires-2 Inv-loop μ-loop
-digit-at-requires-2 c κs = omega (arith, c .before .before .before .loop .inv .1 .digit (c .before .before .loop-test .taken))
+digit-at-requires-2 c κs =
+    let digit = c .before .before .before .loop .inv .1 in
+    omega (arith, digit .digit (c .before .before .loop-test .taken))
 
 loop-less : tie.Need-loop-less Inv-loop μ-loop
-loop-less c = omega (arith, c .before .before .before .before .loop .inv .1 .digit (c .before .before .before .loop-test .taken))
+loop-less c =
+    let digit = c .before .before .before .before .loop .inv .1 in
+    omega (arith, digit .digit (c .before .before .before .loop-test .taken))
 
 loop-again : tie.Need-loop-again Inv-loop μ-loop
 loop-again c =
-    let inside = c .before .before .before .before .loop .inv .1 .digit (c .before .before .before .loop-test .taken) .0 in
+    let digit = c .before .before .before .before .loop .inv .1 in
+    let inside = digit .digit (c .before .before .before .loop-test .taken) .0 in
     (record { within = omega (arith, inside); fits = omega arith; numeral = inr (longer (c .before .before)) }, c .digit-at2 .ensures)
 
 returns-3 : tie.Need-returns-3 Inv-loop μ-loop
-returns-3 c = no-digit (rw (c .if4 .taken) at (c .before .before .loop .inv .1 .none (omega (arith, c .before .before .loop .inv .1 .at-most))))
+returns-3 c =
+    let digit = c .before .before .loop .inv .1 in
+    no-digit (rw (c .if4 .taken) at (digit .none (omega (arith, digit .at-most))))
 
 cast-t10 : tie.Need-cast-t10 Inv-loop μ-loop
 cast-t10 c = omega (arith, c .before .before .loop .inv .0 .fits)
 
 returns-4 : tie.Need-returns-4 Inv-loop μ-loop
 returns-4 c =
+    let (read, digit) = c .before .before .loop .inv in
     record {
-      within = c .before .before .loop .inv .0 .within;
-      numeral = some-read (c .before .before .loop .inv .0) (c .if4 .left);
-      fits = c .before .before .loop .inv .0 .fits;
-      ends = c .before .before .loop .inv .1 .none (omega (arith, c .before .before .loop .inv .1 .at-most));
+      within = read .within;
+      numeral = some-read read (c .if4 .left);
+      fits = read .fits;
+      ends = digit .none (omega (arith, digit .at-most));
     }
 
 pub read-number-spec : {M : Type 1} → statement M

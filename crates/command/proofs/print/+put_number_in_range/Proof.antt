@@ -2,7 +2,7 @@
 use mathlib.Core.Path.{subst, _∙_}
 use Prim.Native.Nat.{ℕ, _/_, _<_}
 use native.Mathlib.Omega.{arith}
-use Rattle.command.specs.PutFacts.{put-one-digit, tenth-ends, put-last-digit}
+use Rattle.command.specs.Facts.Puts.{put-one-digit, tenth-ends, put-last-digit}
 use borrow.Fn.Kinds.{In}
 use borrow.Fn.PlainCycle.{Measures, is, falls, and}
 use Rattle.command.proofs.print.put_number_in_range.Reads as number
@@ -35,7 +35,9 @@ same-length : (t : ℕ) → lts.Need-same-length (byte.Asked, byte.Learnt, below
 same-length t c = c .before .before .put-byte-in-range .kept .0
 
 returns : (t : ℕ) → lts.Need-returns (byte.Asked, byte.Learnt, below t, number.Post) (given t) number.Post
-returns t c = put-one-digit (c .before .before .before .before .before .before .args .value) (c .before .before .before .before .if1 .taken) (c .before .before .put-byte-in-range .ensures)
+returns t c =
+    let value = c .before .before .before .before .before .before .args .value in
+    put-one-digit value (c .before .before .before .before .if1 .taken) (c .before .before .put-byte-in-range .ensures)
 
 tenth-requires : (t : ℕ) → lts.Need-put-number-in-range-requires (byte.Asked, byte.Learnt, below t, number.Post) (given t) number.Post
 tenth-requires t c κs =
@@ -63,7 +65,9 @@ returns-2 : (t : ℕ) → lts.Need-returns-2 (byte.Asked, byte.Learnt, below t, 
 returns-2 t c =
     let start = c .before .before .before .before .before .before .before .before .before .before in
     let tenth = c .before .before .before .before .before .before .put-number-in-range in
-    put-last-digit (start .args .value) (start .good .1 .1 .0 .1) (c .before .before .before .before .before .before .before .before .if1 .left) (omega (arith, start .pre .1)) (tenth .ensures) (c .before .before .put-byte-in-range2 .ensures)
+    let last = c .before .before .put-byte-in-range2 in
+    let high = c .before .before .before .before .before .before .before .before .if1 .left in
+    put-last-digit (start .args .value) (start .good .1 .1 .0 .1) high (omega (arith, start .pre .1)) (tenth .ensures) (last .ensures)
 
 pub +put-number-in-range-spec : {M : Type 1} → statement M
 +put-number-in-range-spec =

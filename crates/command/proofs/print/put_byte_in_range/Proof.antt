@@ -1,6 +1,6 @@
 -- `command::print::put_byte_in_range` meets its contract: one place is set.
 use borrow.Author.Needs.{needs}
-use Rattle.command.specs.PutFacts.{put-byte}
+use Rattle.command.specs.Facts.Puts.{put-byte}
 use Rattle.command.proofs.print.put_byte_in_range.Statement.{statement}
 use Rattle.command.proofs.print.put_byte_in_range.Tie as tie
 

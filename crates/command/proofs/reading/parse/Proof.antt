@@ -1,6 +1,6 @@
 -- `command::reading::parse` meets its contract: a line of 1 to 63 bytes is its first byte and what follows, whose fields are read.
 use lib.Seq.{drop-cons}
-use Rattle.command.specs.CommandFacts.{no-bytes, too-long}
+use Rattle.command.specs.Facts.Commands.{no-bytes, too-long}
 use borrow.Author.Needs.{needs}
 use Rattle.command.proofs.reading.parse.Statement.{statement}
 use Rattle.command.proofs.reading.parse.Tie as tie

@@ -5,7 +5,7 @@ use native.Mathlib.Omega.{arith}
 use borrow.Author.Needs.{needs}
 use lib.ListN.{length, take, drop, length-drop}
 use lib.Seq.{take-all}
-use Rattle.command.specs.FieldFacts.{field-read}
+use Rattle.command.specs.Facts.Fields.{field-read}
 use Rattle.command.proofs.reading.read_field.Statement.{statement}
 use Rattle.command.proofs.reading.read_field.Tie as tie
 
@@ -32,10 +32,12 @@ read-number-requires c κs = search needs
 
 returns-2 : tie.Need-returns-2
 returns-2 c =
-    let line = c .before .before .before .before .before .args .line .now in
-    let first = c .before .before .before .before .before .args .at + 1 in
-    let whole : take (length line - first) (drop first line) ≡ drop first line = take-all (length line - first) (drop first line) (omega (arith, length-drop first line)) in
-    field-read line (c .before .before .before .before .before .args .at) (c .read-number .result) (c .before .before .if1 .left) (rw whole at (c .read-number .ensures))
+    let args = c .before .before .before .before .before .args in
+    let line = args .line .now in
+    let first = args .at + 1 in
+    let room = length line - first in
+    let whole : take room (drop first line) ≡ drop first line = take-all room (drop first line) (omega (arith, length-drop first line)) in
+    field-read line (args .at) (c .read-number .result) (c .before .before .if1 .left) (rw whole at (c .read-number .ensures))
 
 pub read-field-spec : {M : Type 1} → statement M
 read-field-spec =

@@ -6,7 +6,7 @@ use borrow.Author.Needs.{needs}
 use lib.ListN.{length, set}
 use Rattle.command.specs.Reads.{IsReadField}
 use Rattle.command.specs.declared.numbers.Number.the-variants.{Value}
-use Rattle.command.specs.LineFacts.{IsReadUpTo, not-good, is-good, at-first, field-more, all-read, too-many, field-fails}
+use Rattle.command.specs.Facts.Lines.{IsReadUpTo, not-good, is-good, at-first, field-more, all-read, too-many, field-fails}
 use Rattle.command.proofs.reading.read_fields.Statement.{statement}
 use Rattle.command.proofs.reading.read_fields.Tie as tie
 
@@ -55,7 +55,8 @@ longer :
 longer c =
     let loop = c .before .before .before .before .before .loop in
     let line = c .before .before .before .before .before .before .before .args .line .now in
-    let field : IsReadField line (loop .at) (Value (c .value .given .0 .0) (c .value .given .0 .1 .0)) = rw (c .value .given .1) at (c .before .before .read-field .ensures) in
+    let (v, (n, _)) = c .value .given .0 in
+    let field : IsReadField line (loop .at) (Value v n) = rw (c .value .given .1) at (c .before .before .read-field .ensures) in
     field-more (loop .inv) (c .before .before .before .before .loop-test .taken) (omega arith) (field .0) (field .1)
 
 add-at : tie.Need-add-at Inv-loop μ-loop
@@ -71,7 +72,9 @@ loop-again : tie.Need-loop-again Inv-loop μ-loop
 loop-again c = longer (c .before)
 
 returns-3 : tie.Need-returns-3 Inv-loop μ-loop
-returns-3 c = is-good (omega (arith, c .before .loop .inv .counted, c .before .loop .inv .places)) (all-read (c .before .loop .inv) (c .loop-test .left))
+returns-3 c =
+    let read = c .before .loop .inv in
+    is-good (omega (arith, read .counted, read .places)) (all-read read (c .loop-test .left))
 
 pub read-fields-spec : {M : Type 1} → statement M
 read-fields-spec =

@@ -1,6 +1,6 @@
 -- `command::step::step_in_range` meets its contract: what the line says is answered, and the answer is written.
 use mathlib.Core.Path.{refl}
-use Rattle.command.specs.AnswerFacts.{answered-few}
+use Rattle.command.specs.Facts.Answers.{answered-few}
 use borrow.Author.Needs.{needs}
 use Rattle.command.proofs.step.step_in_range.Statement.{statement}
 use Rattle.command.proofs.step.step_in_range.Tie as tie
@@ -12,13 +12,29 @@ answer-requires : tie.Need-answer-requires
 answer-requires c κs = search needs
 
 put-line-in-range-requires : tie.Need-put-line-in-range-requires
-put-line-in-range-requires c κs = (answered-few (c .before .before .before .before .before .before .args .planner) (c .before .before .before .before .before .before .args .number) (c .before .before .before .parse .result) (c .before .before .answer .result) (c .before .before .answer .ensures), c .before .before .before .before .before .before .pre)
+put-line-in-range-requires c κs =
+    let start = c .before .before .before .before .before .before in
+    let command = c .before .before .before .parse .result in
+    let answer = c .before .before .answer in
+    (answered-few (start .args .planner) (start .args .number) command (answer .result) (answer .ensures), start .pre)
 
 same-length : tie.Need-same-length
 same-length c = search needs
 
 returns : tie.Need-returns
-returns c = record { command = c .before .before .before .before .before .before .before .parse .result; says = c .before .before .before .before .before .before .before .parse .ensures; answered = c .before .before .before .before .before .before .answer .result; by-contract = c .before .before .before .before .before .before .answer .ensures; planner = refl; written = c .before .before .before .put-line-in-range .ensures .0; room = c .before .before .before .put-line-in-range .ensures .1 }
+returns c =
+    let parse = c .before .before .before .before .before .before .before .parse in
+    let answer = c .before .before .before .before .before .before .answer in
+    let put-line = c .before .before .before .put-line-in-range in
+    record {
+      command = parse .result;
+      says = parse .ensures;
+      answered = answer .result;
+      by-contract = answer .ensures;
+      planner = refl;
+      written = put-line .ensures .0;
+      room = put-line .ensures .1;
+    }
 
 pub step-in-range-spec : {M : Type 1} → statement M
 step-in-range-spec =

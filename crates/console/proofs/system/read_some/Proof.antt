@@ -24,7 +24,11 @@ same-length : tie.Need-same-length Inv-loop μ-loop
 same-length c = search needs
 
 returns : tie.Need-returns Inv-loop μ-loop
-returns c = let moved = subst (λ (n : ℕ). Moved n (c .before .before .before .read .result)) (c .before .before .before .before .before .before .loop .inv) (c .before .before .before .read .ensures) in search needs
+returns c =
+    let read = c .before .before .before .read in
+    let same = c .before .before .before .before .before .before .loop .inv in
+    let moved = subst (λ (n : ℕ). Moved n (read .result)) same (read .ensures) in
+    search needs
 
 is-to-be-tried-again-requires : tie.Need-is-to-be-tried-again-requires Inv-loop μ-loop
 is-to-be-tried-again-requires c κs = search needs
@@ -33,7 +37,11 @@ same-length-2 : tie.Need-same-length-2 Inv-loop μ-loop
 same-length-2 c = search needs
 
 returns-2 : tie.Need-returns-2 Inv-loop μ-loop
-returns-2 c = let moved = subst (λ (n : ℕ). Moved n (c .before .before .before .before .before .read .result)) (c .before .before .before .before .before .before .before .before .loop .inv) (c .before .before .before .before .before .read .ensures) in search needs
+returns-2 c =
+    let read = c .before .before .before .before .before .read in
+    let same = c .before .before .before .before .before .before .before .before .loop .inv in
+    let moved = subst (λ (n : ℕ). Moved n (read .result)) same (read .ensures) in
+    search needs
 
 sub-tries : tie.Need-sub-tries Inv-loop μ-loop
 sub-tries c = omega arith

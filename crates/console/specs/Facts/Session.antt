@@ -3,7 +3,7 @@ use mathlib.Core.Path.{_≡_, refl, sym, ap, subst, subst⁻¹, _∙_}
 use mathlib.Core.Bool.{Bool, true, false, false≢true}
 use mathlib.Core.Logic.{_⊎_, inl, inr}
 use mathlib.Core.List.{List, [], _++_, append-nil}
-use Prim.Native.Nat.{ℕ, _+_, _-_, _*_, _≤_, _<_}
+use Prim.Native.Nat.{ℕ, _+_, _-_, _≤_, _<_}
 use native.Mathlib.Nat.{lt-irrefl}
 use native.Mathlib.Decide.{ℕ-discrete}
 use native.Mathlib.Omega.{arith}
@@ -13,33 +13,24 @@ use Rattle.command.specs.Lines.{IsLineEnd}
 use Rattle.command.specs.Runs.{CanRun, HasRun, HasRunLast}
 use Rattle.command.specs.declared.lines.Reached.{Reached}
 use Rattle.console.specs.Transcript.{HasNoEnd, Told, ToldAll}
-use Rattle.console.specs.Transcript.Transcript.{none}
-use Rattle.console.specs.LineEndFacts.{no-end-first, rest-no-end}
-use Rattle.console.specs.MoveFacts.{first-64}
-use Rattle.console.specs.TranscriptFacts.{read-told, cut-told, step-answer, step-written, run-told, none-left, last-told}
-use Rattle.console.specs.Session.{at-hand, HasTold, IsBegun, InBounds, CanAnswer, HasAnswered, CanAnswerLast, HasAnsweredLast, handed-over, IsMoved, CanKeep, IsKept, CanRefill, delivered, IsRefilled, IsTurned}
+use Rattle.console.specs.Facts.LineEnds.{no-end-first, rest-no-end}
+use Rattle.console.specs.Facts.Moves.{first-64}
+use Rattle.console.specs.Facts.Transcript.{read-told, cut-told, step-answer, step-written, run-told, none-left, last-told}
+use Rattle.console.specs.Session.{at-hand, HasTold, InBounds, CanAnswer, HasAnswered, HasAnsweredLast}
+use Rattle.console.specs.Session.{handed-over, IsMoved, CanKeep, IsKept, CanRefill, delivered, IsRefilled, IsTurned}
 use Rattle.console.specs.declared.Session.{Session}
 use Rattle.console.specs.declared.Turn.{Turn}
 
--- at the beginning nothing is read, written or at hand
-pub begun-told : (s : Session) → IsBegun s → (input : List ℕ) → HasTold [] [] s input
-begun-told s is input =
-    let nothing : at-hand s input ≡ [] =
-    drop-of-length-le (take (s .have) input) {i = s .reached .from} (omega (arith, length-take (s .have) input, is .have, is .beginning .from)) in
-    subst⁻¹ (λ (l : List ℕ). Told [] [] (s .reached .planner) (s .reached .number) l) nothing
-    (subst⁻¹ (λ (n : ℕ). Told [] [] (s .reached .planner) n []) (is .beginning .number)
-    (record {
-      rest = [];
-      answered = record { first = s .reached .planner; closed = is .beginning .closed; lines = []; all = refl; transcript = none };
-      stands = inl refl;
-    }))
+-- the bytes that a session has, answered or not
+abbrev had : Session → List ℕ → List ℕ
+had s input = take (s .have) input
 
-module _ (s : Session) (input out : List ℕ) (can : CanAnswer s input out) where
-  all-there : length (take (s .have) input) ≡ s .have
+module _ {s : Session} {input out : List ℕ} (can : CanAnswer s input out) where
+  pub all-there : length (had s input) ≡ s .have
   all-there = length-take-le (s .have) input (omega (arith, can .bounds .have, can .places))
 
   -- what answering relies on is what running lines does
-  pub can-run : CanRun (s .reached) (take (s .have) input) out
+  pub can-run : CanRun (s .reached) (had s input) out
   can-run =
       record {
         in-input = omega (arith, all-there, can .bounds .from);
@@ -47,9 +38,9 @@ module _ (s : Session) (input out : List ℕ) (can : CanAnswer s input out) wher
         counts = omega (arith, all-there, can .number, can .bounds .have);
       }
 
-  module _ (after : List ℕ) (r : Reached) where
+  module _ {after : List ℕ} {r : Reached} where
     -- lines that were run are answered
-    pub ran-answered : HasRun (s .reached) (take (s .have) input) out after r → HasAnswered s input after (record { reached = r; have = s .have })
+    pub ran-answered : HasRun (s .reached) (had s input) out after r → HasAnswered s input after (record { reached = r; have = s .have })
     ran-answered ran =
         record {
           told = λ read written told. run-told (ran .reaches) (can .empty) (ran .in-buffer) read written told .1;
@@ -59,38 +50,45 @@ module _ (s : Session) (input out : List ℕ) (can : CanAnswer s input out) wher
           number = omega (arith, ran .counts, ran .in-input, all-there, can .bounds .have);
         }
       where
-        go : IsLineEnd (take (s .have) input) (r .from) (length (take (s .have) input)) ⊎ (length out < r .end + 1430) → HasNoEnd (drop (r .from) (take (s .have) input)) ⊎ (65536 < r .end + 1430)
-        go (inl line-end) = inl (rest-no-end (take (s .have) input) (r .from) line-end)
+        go : IsLineEnd (had s input) (r .from) (length (had s input)) ⊎ (length out < r .end + 1430)
+            → HasNoEnd (drop (r .from) (had s input)) ⊎ (65536 < r .end + 1430)
+        go (inl line-end) = inl (rest-no-end (had s input) (r .from) line-end)
         go (inr full) = inr (omega (arith, full, can .room))
 
     -- so is the last line
-    pub ran-last : HasNoEnd (at-hand s input) → HasRunLast (s .reached) (take (s .have) input) out after r → HasAnsweredLast s input after (record { reached = r; have = s .have })
+    pub ran-last : HasNoEnd (at-hand s input) → HasRunLast (s .reached) (had s input) out after r
+        → HasAnsweredLast s input after (record { reached = r; have = s .have })
     ran-last no-end ran =
         record {
-          told = λ read written told. go read written told (ℕ-discrete (s .reached .from) (length (take (s .have) input)));
+          told = λ read written told. go read written told (ℕ-discrete (s .reached .from) (length (had s input)));
           end = omega (arith, ran .in-buffer, can .room);
         }
       where
-        go : (read written : List ℕ) → HasTold read written s input → Dec (s .reached .from ≡ length (take (s .have) input))
+        go : (read written : List ℕ) → HasTold read written s input → Dec (s .reached .from ≡ length (had s input))
             → ToldAll read (written ++ take (r .end) after)
         go read written told (yes all) =
             let same : r ≡ s .reached = ran .nothing-left all .0 in
             let nothing-written : take (r .end) after ≡ [] = ap (λ (k : ℕ). take k after) (ap (λ (t : Reached). t .end) same ∙ can .empty) in
-            let nothing-left : at-hand s input ≡ [] = drop-of-length-le (take (s .have) input) {i = s .reached .from} (omega (arith, all)) in
+            let nothing-left : at-hand s input ≡ [] = drop-of-length-le (had s input) {i = s .reached .from} (omega (arith, all)) in
             subst (ToldAll read) (sym (append-nil written) ∙ ap (λ (l : List ℕ). written ++ l) (sym nothing-written))
-            (none-left (subst (λ (l : List ℕ). Told read written (s .reached .planner) (s .reached .number) l) nothing-left told))
+            (none-left (subst (Told read written (s .reached .planner) (s .reached .number)) nothing-left told))
         go read written told (no some) =
             let (step, (is, r-is)) = ran .last-line some (omega (arith, can .empty, can .room)) in
             let bytes = is .written .bytes in
             let put : take (r .end) after ≡ bytes =
-            ap (λ (t : Reached). take (t .end) after) r-is ∙ step-written is (omega (arith, can .empty, can .room)) ∙ ap (λ (k : ℕ). take k out ++ bytes) (can .empty) in
+            ap (λ (t : Reached). take (t .end) after) r-is ∙ step-written is (omega (arith, can .empty, can .room))
+            ∙ ap (λ (k : ℕ). take k out ++ bytes) (can .empty) in
             subst (ToldAll read) (ap (λ (l : List ℕ). written ++ l) (sym put))
             (last-told told no-end (λ nothing. some (ends nothing)) bytes (step .planner) (step-answer is))
           where
-            ends : at-hand s input ≡ [] → s .reached .from ≡ length (take (s .have) input)
-            ends nothing = omega (arith, ap length nothing, length-drop (s .reached .from) (take (s .have) input), all-there, can .bounds .from)
+            ends : at-hand s input ≡ [] → s .reached .from ≡ length (had s input)
+            ends nothing = omega (arith, ap length nothing, length-drop (s .reached .from) (had s input), all-there, can .bounds .from)
 
-module _ (s : Session) (before after : List ℕ) (can : CanKeep s before) (k : ℕ) (is : IsMoved (s .reached .from) (s .have) before after k) where
+-- a session whose first k bytes at hand stand at the front
+abbrev moved-up : Session → ℕ → Session
+moved-up s k = record { reached = record { planner = s .reached .planner; number = s .reached .number; from = 0; end = s .reached .end }; have = k }
+
+module _ {s : Session} {before after : List ℕ} {k : ℕ} (can : CanKeep s before) (is : IsMoved (s .reached .from) (s .have) before after k) where
   -- the first 64 of the bytes at hand stand at the front
   front-is : take k after ≡ take 64 (at-hand s before)
   front-is =
@@ -100,7 +98,7 @@ module _ (s : Session) (before after : List ℕ) (can : CanKeep s before) (k : �
       ap (take k) (is .content) ∙ take-at (take k (drop from before)) (drop k before) k long ∙ ap (λ (n : ℕ). take n (drop from before)) (is .count)
       ∙ sym (first-64 before from (s .have) (can .bounds .from) (omega (arith, can .bounds .have, can .places)))
 
-  pub moved-kept : IsKept s before after (record { reached = record { planner = s .reached .planner; number = s .reached .number; from = 0; end = s .reached .end }; have = k })
+  pub moved-kept : IsKept s before after (moved-up s k)
   moved-kept =
       record {
         told = λ read written told. subst⁻¹ (Told read written (s .reached .planner) (s .reached .number)) front-is (cut-told (can .no-end) told);
@@ -113,25 +111,28 @@ module _ (s : Session) (before after : List ℕ) (can : CanKeep s before) (k : �
       }
 
 -- what a read delivers stands behind what was kept, which it leaves as it is
-module _ (s kept : Session) (before mid after : List ℕ) (is : IsKept s before mid kept) (can : CanRefill s before) (same : take (kept .have) after ≡ take (kept .have) mid) where
-  module _ (wrote got : ℕ) (more ended : Bool) (few : kept .have + got ≤ 65536) (at-end : ended ≡ true → got ≡ 0) where
+module _ {s kept : Session} {before mid : List ℕ} (is : IsKept s before mid kept) (can : CanRefill s before) where
+  module _ (after : List ℕ) (same : had kept after ≡ had kept mid) (wrote got : ℕ) (more ended : Bool)
+      (few : kept .have + got ≤ 65536) (at-end : ended ≡ true → got ≡ 0) where
     abbrev next : Turn
     next = record { session = record { reached = kept .reached; have = kept .have + got }; wrote = wrote; got = got; more = more; ended = ended }
 
     behind : at-hand (next .session) after ≡ at-hand kept mid ++ delivered next after
     behind =
         let all = take (kept .have + got) after in
-        let first : take (kept .have) all ≡ take (kept .have) mid = take-take (kept .have) (kept .have + got) after (omega arith) ∙ same in
+        let first : take (kept .have) all ≡ had kept mid = take-take (kept .have) (kept .have + got) after (omega arith) ∙ same in
         let from-zero : (l : List ℕ) → drop (kept .reached .from) l ≡ l = λ l. ap (λ (n : ℕ). drop n l) (is .from) in
         let back : kept .have ≡ kept .have + got - got = omega arith in
-        from-zero all ∙ sym (take-append-drop (kept .have) all) ∙ ap (λ (l : List ℕ). l ++ drop (kept .have) all) (first ∙ sym (from-zero (take (kept .have) mid)))
+        from-zero all ∙ sym (take-append-drop (kept .have) all)
+        ∙ ap (λ (l : List ℕ). l ++ drop (kept .have) all) (first ∙ sym (from-zero (had kept mid)))
         ∙ ap (λ (n : ℕ). at-hand kept mid ++ drop n all) back
 
     pub kept-refilled : IsRefilled s wrote before after next
     kept-refilled =
         record {
           told = λ read written told.
-              subst⁻¹ (Told (read ++ delivered next after) written (kept .reached .planner) (kept .reached .number)) behind (read-told (delivered next after) (is .told read written told));
+              subst⁻¹ (Told (read ++ delivered next after) written (kept .reached .planner) (kept .reached .number)) behind
+              (read-told (delivered next after) (is .told read written told));
           wrote-is = refl;
           bounds = record { from = omega (arith, is .from); have = few };
           empty = is .end ∙ can .empty;
@@ -148,7 +149,7 @@ module _ (s kept : Session) (before mid after : List ℕ) (is : IsKept s before 
 pub within-part : (l : List ℕ) (from n got : ℕ) → got ≤ length (take n (drop from l)) → from ≤ 65536 → length l ≡ 65536 → from + got ≤ 65536
 within-part l from n got few inside long = omega (arith, length-take n (drop from l), length-drop from l)
 
-module _ (s answered : Session) (before out : List ℕ) (is : HasAnswered s before out answered) (session : Session) (over : session ≡ handed-over answered) where
+module _ {s answered session : Session} {before out : List ℕ} (is : HasAnswered s before out answered) (over : session ≡ handed-over answered) where
   -- where there is room for another answer, no whole line is left
   pub can-refill : length before ≡ 65536 → 1430 ≤ 65536 - answered .reached .end → CanRefill session before
   can-refill places room =
@@ -163,14 +164,15 @@ module _ (s answered : Session) (before out : List ℕ) (is : HasAnswered s befo
       go (inr full) = absurd (lt-irrefl 0 (omega (arith, full, room, is .end)))
 
   still-told : (read written : List ℕ) → HasTold read written s before → HasTold read (written ++ take (answered .reached .end) out) session before
-  still-told read written told = subst⁻¹ (λ (x : Session). HasTold read (written ++ take (answered .reached .end) out) x before) over (is .told read written told)
+  still-told read written told =
+      subst⁻¹ (λ (x : Session). HasTold read (written ++ take (answered .reached .end) out) x before) over (is .told read written told)
 
   few-lines : session .reached .number ≤ s .reached .number + 65536
   few-lines = omega (arith, ap (λ (x : Session). x .reached .number) over, is .number)
 
   -- a turn that has read
-  pub refilled-turned : (after : List ℕ) (t : Turn) → IsRefilled session (answered .reached .end) before after t → IsTurned s before after out t
-  refilled-turned after t filled =
+  pub refilled-turned : {after : List ℕ} {t : Turn} → IsRefilled session (answered .reached .end) before after t → IsTurned s before after out t
+  refilled-turned {after} {t} filled =
       record {
         told = λ read written told.
             subst⁻¹ (λ (k : ℕ). HasTold (read ++ delivered t after) (written ++ take k out) (t .session) after) (filled .wrote-is)
@@ -182,11 +184,13 @@ module _ (s answered : Session) (before out : List ℕ) (is : HasAnswered s befo
       }
 
   -- a turn that has not
-  pub stayed-turned : (more : Bool) → IsTurned s before before out (record { session = session; wrote = answered .reached .end; got = 0; more = more; ended = false })
+  pub stayed-turned : (more : Bool)
+      → IsTurned s before before out (record { session = session; wrote = answered .reached .end; got = 0; more = more; ended = false })
   stayed-turned more =
       record {
         told = λ read written told.
-            subst⁻¹ (λ (l : List ℕ). HasTold l (written ++ take (answered .reached .end) out) session before) (ap (λ (l : List ℕ). read ++ l) nothing ∙ append-nil read)
+            subst⁻¹ (λ (l : List ℕ). HasTold l (written ++ take (answered .reached .end) out) session before)
+            (ap (λ (l : List ℕ). read ++ l) nothing ∙ append-nil read)
             (still-told read written told);
         bounds = subst⁻¹ InBounds over (record { from = is .bounds .from; have = is .bounds .have });
         empty = ap (λ (x : Session). x .reached .end) over;
@@ -196,39 +200,3 @@ module _ (s answered : Session) (before out : List ℕ) (is : HasAnswered s befo
     where
       nothing : drop (session .have - 0) (take (session .have) before) ≡ []
       nothing = drop-of-length-le (take (session .have) before) {i = session .have - 0} (omega (arith, length-take (session .have) before))
-
--- what holds between turns: all that was read is answered up to what is at hand, and line numbers are kept while turns are left
-pub record Going (s : Session) (ended : Bool) (input : List ℕ) (turns : ℕ) : Type 0 where
-  pub told : (read : List ℕ) × ((written : List ℕ) × HasTold read written s input)
-  pub bounds : InBounds s
-  pub empty : s .reached .end ≡ 0
-  pub number : s .reached .number + turns * 65536 ≤ 9_223_372_036_854_775_808
-  pub at-end : ended ≡ true → HasNoEnd (at-hand s input)
-
-pub begun-going : (s : Session) → IsBegun s → (input : List ℕ) → Going s false input 140_737_488_355_328
-begun-going s is input =
-    record {
-      told = ([], ([], begun-told s is input));
-      bounds = record { from = omega (arith, is .beginning .from, is .have); have = omega (arith, is .have) };
-      empty = is .beginning .end;
-      number = omega (arith, is .beginning .number);
-      at-end = λ no-end. absurd (false≢true no-end);
-    }
-
-module _ (s : Session) (ended : Bool) (input : List ℕ) (turns : ℕ) (going : Going s ended input turns) where
-  pub can-turn : (out : List ℕ) → length input ≡ 65536 → length out ≡ 65536 → CanAnswer s input out
-  can-turn out places room =
-      record { bounds = going .bounds; empty = going .empty; number = omega (arith, going .number); places = places; room = room }
-
-  -- what a turn read and handed over is added to what was
-  turn-told : (after out : List ℕ) (t : Turn) → IsTurned s input after out t → (read : List ℕ) × ((written : List ℕ) × HasTold read written (t .session) after)
-  turn-told after out t is =
-      let (read, (written, told)) = going .told in
-      (read ++ delivered t after, (written ++ take (t .wrote) out, is .told read written told))
-
-  pub gone-on : (after out : List ℕ) (t : Turn) → IsTurned s input after out t → (left : ℕ) → left < turns → Going (t .session) (t .ended) after left
-  gone-on after out t is left fewer =
-      record { told = turn-told after out t is; bounds = is .bounds; empty = is .empty; number = omega (arith, is .number, going .number, fewer); at-end = is .at-end }
-
-  pub can-finish : (out : List ℕ) → length input ≡ 65536 → length out ≡ 65536 → ended ≡ true → CanAnswerLast s input out
-  can-finish out places room end = record { can-answer = can-turn out places room; no-end = going .at-end end }

@@ -11,7 +11,7 @@ use native.Mathlib.Omega.{arith}
 use lib.ListN.{length, take, drop, getD, set, length-append, length-set, drop-of-length-le}
 use lib.Seq.{take-suc-set, length-take-le}
 use Rattle.command.specs.Text.{IsFields, none}
-use Rattle.command.specs.FieldFacts.{IsFirst, fields-cases, not-at-end, IsAfter, field-within, field-on, field-back, field-bad}
+use Rattle.command.specs.Facts.Fields.{IsFirst, fields-cases, not-at-end, IsAfter, field-within, field-on, field-back, field-bad}
 use Rattle.command.specs.Reads.{IsNumberAtStart, IsReadField, Fit, AreNumbers, IsReadFields}
 use Rattle.command.specs.declared.numbers.Number.the-variants.{Bad}
 
@@ -41,7 +41,8 @@ at-first line values some places =
 
 module _ {line values : List ℕ} {count at : ℕ} (to : IsReadUpTo line values count at) where
   -- one field more
-  pub field-more : at < length line → count < 4 → {v n : ℕ} → getD line at 0 ≡ 44 → IsNumberAtStart (drop (at + 1) line) v n → IsReadUpTo line (set values count v) (count + 1) (at + 1 + n)
+  pub field-more : at < length line → count < 4 → {v n : ℕ} → getD line at 0 ≡ 44 → IsNumberAtStart (drop (at + 1) line) v n
+      → IsReadUpTo line (set values count v) (count + 1) (at + 1 + n)
   field-more inside room {v = v} {n = n} comma start =
       record {
         within = field-within line at inside comma start;
@@ -61,7 +62,8 @@ module _ {line values : List ℕ} {count at : ℕ} (to : IsReadUpTo line values 
           let next = field-back line at inside comma start (rest .others) (rest .fields) in
           record {
             others = next .others;
-            numbers = rw (longer, append-assoc (take count values) (v ∷ []) (next .others)) (rest .numbers ∙ ap (λ (l : List ℕ). take count values ++ l) (next .numbers));
+            numbers = rw (longer, append-assoc (take count values) (v ∷ []) (next .others))
+                (rest .numbers ∙ ap (λ (l : List ℕ). take count values ++ l) (next .numbers));
             fields = next .fields;
           }
 
@@ -107,8 +109,10 @@ module _ {line values : List ℕ} {count at : ℕ} (to : IsReadUpTo line values 
       field-bad line at inside bad (rest .others) (λ n there. fit n (rw (rest .numbers) (mem-append-right (take count values) there))) (rest .fields)
 
 -- what is answered of a line that is not good, and of one that is
-pub not-good : {line values : List ℕ} {count : ℕ} → ((ns : List ℕ) → length ns ≤ 4 → Fit ns → IsFields (drop 1 line) ns → ⊥) → IsReadFields line (record { good = false; count = count; values = values })
+pub not-good : {line values : List ℕ} {count : ℕ} → ((ns : List ℕ) → length ns ≤ 4 → Fit ns → IsFields (drop 1 line) ns → ⊥)
+    → IsReadFields line (record { good = false; count = count; values = values })
 not-good fails = record { read = λ e. absurd (false≢true e); bad = λ _. fails }
 
-pub is-good : {line values : List ℕ} {count : ℕ} → count ≤ length values → AreNumbers line (take count values) → IsReadFields line (record { good = true; count = count; values = values })
+pub is-good : {line values : List ℕ} {count : ℕ} → count ≤ length values → AreNumbers line (take count values)
+    → IsReadFields line (record { good = true; count = count; values = values })
 is-good within numbers = record { read = λ _. (within, numbers); bad = λ e. absurd (true≢false e) }

@@ -35,7 +35,8 @@ takes-few adding = omega arith
 takes-few removing = omega arith
 takes-few holding = omega arith
 
-takes-other : {letter n : ℕ} → (letter ≡ 79 → n ≡ 4 → ⊥) → (letter ≡ 65 → n ≡ 4 → ⊥) → (letter ≡ 68 → n ≡ 1 → ⊥) → (letter ≡ 82 → n ≡ 0 → ⊥) → Takes letter n → ⊥
+takes-other : {letter n : ℕ} → (letter ≡ 79 → n ≡ 4 → ⊥) → (letter ≡ 65 → n ≡ 4 → ⊥) → (letter ≡ 68 → n ≡ 1 → ⊥)
+    → (letter ≡ 82 → n ≡ 0 → ⊥) → Takes letter n → ⊥
 takes-other a b c d opening = a refl refl
 takes-other a b c d adding = b refl refl
 takes-other a b c d removing = c refl refl

@@ -8,9 +8,9 @@ use native.Mathlib.Omega.{arith}
 use lib.ListN.{length, take, getD, set, length-set, length-map, length-take}
 use Rattle.rules.specs.Streams.{Stream}
 use Rattle.rules.specs.Slots.{slots}
-use Rattle.planner.specs.Content.{content}
+use Rattle.planner.specs.Content.{content, slots-of, streams-in}
 use Rattle.planner.specs.Round.{ids-at, IsRound}
-use Rattle.planner.specs.CallFacts.{held-is-sound}
+use Rattle.planner.specs.Facts.Calls.{held-is-sound}
 use Rattle.planner.specs.declared.Planner.{Planner}
 use Rattle.planner.specs.declared.Rounded.{Rounded}
 use Rattle.command.specs.Answers.{IsAnswered}
@@ -24,12 +24,12 @@ pub record Copied (ids old : List ℕ) (k : ℕ) (values : List ℕ) : Type 0 wh
   pub content : values ≡ paste old 3 ids k
   pub long : length values ≡ 68
 
-pub none-copied : (ids old : List ℕ) → length old ≡ 68 → Copied ids old 0 old
-none-copied ids old long = record { content = paste-zero old 3 ids; long = long }
+pub none-copied : {ids old : List ℕ} → length old ≡ 68 → Copied ids old 0 old
+none-copied {ids} {old} long = record { content = paste-zero old 3 ids; long = long }
 
-pub one-more-copied : (ids old : List ℕ) (k : ℕ) (values : List ℕ) (v : ℕ) → length ids ≡ 64 → length old ≡ 68 → k < 64 → Copied ids old k values → v ≡ getD ids k 0
-    → Copied ids old (k + 1) (set values (3 + k) v)
-one-more-copied ids old k values v sixty-four sixty-eight below copied same =
+pub one-more-copied : {ids old : List ℕ} {k : ℕ} {values : List ℕ} {v : ℕ} → length ids ≡ 64 → length old ≡ 68 → k < 64
+    → Copied ids old k values → v ≡ getD ids k 0 → Copied ids old (k + 1) (set values (3 + k) v)
+one-more-copied {ids} {old} {k} {values} {v} sixty-four sixty-eight below copied same =
     record {
       content =
           ap (λ (l : List ℕ). set l (3 + k) v) (copied .content) ∙ ap (set (paste old 3 ids k) (3 + k)) same
@@ -37,20 +37,22 @@ one-more-copied ids old k values v sixty-four sixty-eight below copied same =
       long = length-set values (3 + k) v ∙ copied .long;
     }
 
-pub all-copied : (ids old : List ℕ) (n k : ℕ) (values : List ℕ) → length ids ≡ 64 → length old ≡ 68 → n ≤ 64 → k ≡ n → Copied ids old k values
+pub all-copied : {ids old : List ℕ} {n k : ℕ} {values : List ℕ} → length ids ≡ 64 → length old ≡ 68 → n ≤ 64 → k ≡ n → Copied ids old k values
     → take (3 + n) values ≡ take 3 old ++ take n ids
-all-copied ids old n k values sixty-four sixty-eight few ended copied =
-    ap (take (3 + n)) (copied .content ∙ ap (paste old 3 ids) ended) ∙ take-paste old 3 ids n (omega (arith, sixty-eight)) (omega (arith, sixty-four))
+all-copied {ids} {old} {n} sixty-four sixty-eight few ended copied =
+    ap (take (3 + n)) (copied .content ∙ ap (paste old 3 ids) ended)
+    ∙ take-paste old 3 ids n (omega (arith, sixty-eight)) (omega (arith, sixty-four))
 
 -- a held round has at most 64 ids
-pub few-ids : (p : Planner) (before after : List ℕ) (r : Rounded) → IsRound p before after r → r .answer ≡ 0 → r .n ≤ 64
+pub few-ids : {p : Planner} {before after : List ℕ} {r : Rounded} → IsRound p before after r → r .answer ≡ 0 → r .n ≤ 64
 unfolding slots
-few-ids p before after r is zero =
+few-ids {p} {before} {r = r} is zero =
     let none = sym (is .answer) ∙ zero in
     let sound = held-is-sound p before none in
     let s = r .start in
     let ids = is .held none .n in
-    let few : length (ids-at (content p) s) ≤ p .slots = rw (length-map (slots (p .slots) s (content p .table)) (λ (x : Stream). x .number), length-take) (omega arith) in
+    let chosen = slots (slots-of (content p)) s (streams-in (content p)) in
+    let few : length (ids-at (content p) s) ≤ slots-of (content p) = rw (length-map chosen (λ (x : Stream). x .number), length-take) (omega arith) in
     omega (arith, ids, few, sound .content-sound .in-range .slots)
 
 -- an answer has at most 68 numbers

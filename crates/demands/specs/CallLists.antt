@@ -5,8 +5,10 @@ use mathlib.Core.List.{List, [], _∷_, _++_, filter}
 use Prim.Native.Nat.{ℕ, _+_, _≤_, _<_}
 use native.Mathlib.Decide.{ℕ-discrete}
 use lib.ListN.{length, take, getD}
+use Rattle.basics.specs.Refusals.{Refusal}
 use Rattle.rules.specs.Streams.{Stream, packet, MayRide}
-use Rattle.planner.specs.Calls.{IsAdd, IsRemove}
+use Rattle.planner.specs.Content.{Content, content}
+use Rattle.planner.specs.AddRemove.{Offer, added, removed, add-refusals, remove-refusals, IsChange}
 use Rattle.planner.specs.Round.{IsRound}
 use Rattle.planner.specs.declared.Planner.{Planner}
 use Rattle.planner.specs.declared.Changed.{Changed}
@@ -20,14 +22,17 @@ pub record HeldRound : Type 0 where
 abbrev pub held-round : Rounded → List ℕ → HeldRound
 held-round r buffer = record { start = r .start; ids = take (r .n) buffer }
 
+-- The calls but round that a list may hold, with what each refuses and what it would leave. A further call that is asked and refused is a line here.
+pub data Asked (q : Planner) : List Refusal → Content → Type 1 where
+  add : (o : Offer) → Asked q (add-refusals q o) (added (content q) o)
+  remove : (id : ℕ) → Asked q (remove-refusals q id) (removed (content q) id)
+
 -- 01: "The list may hold add, remove and round in any order, with any values and any slot buffers." "Each call gets the planner that the one
 -- before handed back". No add or remove succeeds. "Held rounds are the round calls that answer 0", in order.
-pub data Calls (p : Planner) : List HeldRound → Planner → Type 0 where
+pub data Calls (p : Planner) : List HeldRound → Planner → Type 1 where
   none : Calls p [] p
-  add : {rounds : List HeldRound} {q : Planner} → Calls p rounds q → (id start period deadline : ℕ) (r : Changed)
-      → IsAdd q id start period deadline r → (r .answer ≡ 0 → ⊥) → Calls p rounds (r .planner)
-  remove : {rounds : List HeldRound} {q : Planner} → Calls p rounds q → (id : ℕ) (r : Changed)
-      → IsRemove q id r → (r .answer ≡ 0 → ⊥) → Calls p rounds (r .planner)
+  asked : {rounds : List HeldRound} {q : Planner} → Calls p rounds q → {refusals : List Refusal} {h : Content} → Asked q refusals h → (r : Changed)
+      → IsChange refusals q h r → (r .answer ≡ 0 → ⊥) → Calls p rounds (r .planner)
   refused : {rounds : List HeldRound} {q : Planner} → Calls p rounds q → (before after : List ℕ) (r : Rounded)
       → IsRound q before after r → (r .answer ≡ 0 → ⊥) → Calls p rounds (r .planner)
   held : {rounds : List HeldRound} {q : Planner} → Calls p rounds q → (before after : List ℕ) (r : Rounded)
@@ -36,8 +41,7 @@ pub data Calls (p : Planner) : List HeldRound → Planner → Type 0 where
 -- 01: "a round refused with 17 is the one refused because of it": some round call of the list answered 17.
 unfoldable pub ClockEnded : {p : Planner} {rounds : List HeldRound} {q : Planner} → Calls p rounds q → Type 0
 ClockEnded none = ⊥
-ClockEnded (add calls _ _ _ _ _ _ _) = ClockEnded calls
-ClockEnded (remove calls _ _ _ _) = ClockEnded calls
+ClockEnded (asked calls _ _ _ _) = ClockEnded calls
 ClockEnded (refused calls _ _ r _ _) = (r .answer ≡ 17) ⊎ ClockEnded calls
 ClockEnded (held calls _ _ _ _ _) = ClockEnded calls
 

@@ -14,7 +14,13 @@ use Rattle.command.specs.Puts.{IsPut, IsLine}
 
 -- A byte set at a place.
 pub put-byte : (l : List ℕ) (at b : ℕ) → at < length l → IsPut (λ bytes. bytes ≡ b ∷ []) l (set l at b) at (at + 1)
-put-byte l at b inside = record { bytes = b ∷ []; property = refl; ends = refl; content = set-split l at b inside ∙ ap (λ (n : ℕ). take at l ++ (b ∷ drop n l)) (sym (add-one at)) }
+put-byte l at b inside =
+    record {
+      bytes = b ∷ [];
+      property = refl;
+      ends = refl;
+      content = set-split l at b inside ∙ ap (λ (n : ℕ). take at l ++ (b ∷ drop n l)) (sym (add-one at));
+    }
 
 -- A byte takes one place.
 pub byte-ends : {before after : List ℕ} {at r b : ℕ} → IsPut (λ bytes. bytes ≡ b ∷ []) before after at r → r ≡ at + 1
@@ -25,7 +31,8 @@ pub put-none : {P : List ℕ → Type 0} (l : List ℕ) (at : ℕ) → P [] → 
 put-none l at nothing = record { bytes = []; property = nothing; ends = sym (add-zero at); content = sym (take-append-drop at l) }
 
 -- A property that follows from another.
-pub put-as : {P Q : List ℕ → Type 0} {before after : List ℕ} {at r : ℕ} → ((bytes : List ℕ) → P bytes → Q bytes) → IsPut P before after at r → IsPut Q before after at r
+pub put-as : {P Q : List ℕ → Type 0} {before after : List ℕ} {at r : ℕ} → ((bytes : List ℕ) → P bytes → Q bytes)
+    → IsPut P before after at r → IsPut Q before after at r
 put-as follows put = record { bytes = put .bytes; property = follows (put .bytes) (put .property); ends = put .ends; content = put .content }
 
 -- Two pieces one after the other, the second from where the first ends.
@@ -40,7 +47,10 @@ put-then {before} {mid} {after} {at} {r₁} {r₂} inside together first second 
     let split : mid ≡ front ++ drop r₁ before = first .content ∙ sym (append-assoc (take at before) p (drop r₁ before)) in
     let kept : take r₁ mid ≡ front = ap (take r₁) split ∙ take-at front (drop r₁ before) r₁ long in
     let rest : drop r₁ mid ≡ drop r₁ before = ap (drop r₁) split ∙ drop-at front (drop r₁ before) r₁ long in
-    let past : drop r₂ mid ≡ drop r₂ before = ap (λ (n : ℕ). drop n mid) (second .ends) ∙ sym (drop-drop (length q) r₁ mid) ∙ ap (drop (length q)) rest ∙ drop-drop (length q) r₁ before ∙ ap (λ (n : ℕ). drop n before) (sym (second .ends)) in
+    let past : drop r₂ mid ≡ drop r₂ before =
+    ap (λ (n : ℕ). drop n mid) (second .ends) ∙ sym (drop-drop (length q) r₁ mid)
+    ∙ ap (drop (length q)) rest
+    ∙ drop-drop (length q) r₁ before ∙ ap (λ (n : ℕ). drop n before) (sym (second .ends)) in
     record {
       bytes = p ++ q;
       property = together p q (first .property) (second .property);
@@ -65,7 +75,9 @@ numeral-short (further {bytes} {n} num pos d small) (suc (suc k)) some below =
 
 -- The digits of a tenth of a number, and its last digit.
 pub last-digit : (bytes : List ℕ) (value : ℕ) → 10 ≤ value → IsNumeral bytes (value / 10) → IsNumeral (bytes ++ ((48 + value % 10) ∷ [])) value
-last-digit bytes value high num = subst (IsNumeral (bytes ++ ((48 + value % 10) ∷ []))) (omega arith) (further num (omega (arith, high)) (value % 10) (mod-lt value (omega arith)))
+last-digit bytes value high num =
+    let longer = further num (omega (arith, high)) (value % 10) (mod-lt value (omega arith)) in
+    subst (IsNumeral (bytes ++ ((48 + value % 10) ∷ []))) (omega arith) longer
 
 -- A comma and a number are one field.
 pub one-field : (bytes : List ℕ) (n : ℕ) → IsNumeral bytes n → IsFields (44 ∷ bytes) (n ∷ [])
@@ -74,7 +86,9 @@ one-field bytes n num = subst (λ (l : List ℕ). IsFields (44 ∷ l) (n ∷ [])
 -- Fields after fields.
 pub fields-append : {bytes ns : List ℕ} → IsFields bytes ns → (after ms : List ℕ) → IsFields after ms → IsFields (bytes ++ after) (ns ++ ms)
 fields-append none after ms later = later
-fields-append (more {bytes} {rest} {n} {ns} num fields) after ms later = subst (λ (l : List ℕ). IsFields (44 ∷ l) (n ∷ (ns ++ ms))) (sym (append-assoc bytes rest after)) (more num (fields-append fields after ms later))
+fields-append (more {bytes} {rest} {n} {ns} num fields) after ms later =
+    let all = more num (fields-append fields after ms later) in
+    subst (λ (l : List ℕ). IsFields (44 ∷ l) (n ∷ (ns ++ ms))) (sym (append-assoc bytes rest after)) all
 
 -- A number below 10 is its digit.
 pub put-one-digit : {before after : List ℕ} {at r : ℕ} (value : ℕ) → value < 10
@@ -84,7 +98,8 @@ put-one-digit value small =
     put-as λ bytes one. subst (λ (l : List ℕ). IsNumeral l value × (length l ≤ 20)) (sym one) (digit value small, omega arith)
 
 -- A tenth of a 64-bit number has at most 19 digits.
-pub tenth-ends : {before after : List ℕ} {at r : ℕ} (value : ℕ) → value < 2 ^ 64 → IsPut (λ bytes. IsNumeral bytes (value / 10) × (length bytes ≤ 20)) before after at r → r ≤ at + 19
+pub tenth-ends : {before after : List ℕ} {at r : ℕ} (value : ℕ) → value < 2 ^ 64
+    → IsPut (λ bytes. IsNumeral bytes (value / 10) × (length bytes ≤ 20)) before after at r → r ≤ at + 19
 tenth-ends value fits put =
     let below : value / 10 < 10 ^ 19 = omega (arith, fits) in
     omega (arith, put .ends, numeral-short (put .property .0) 19 (omega arith) below)
@@ -105,7 +120,10 @@ pub put-field : {before mid after : List ℕ} {at end r : ℕ} (value : ℕ) →
     → IsPut (λ bytes. bytes ≡ 44 ∷ []) before mid at end
     → IsPut (λ bytes. IsNumeral bytes value × (length bytes ≤ 20)) mid after end r
     → IsPut (λ bytes. IsFields bytes (value ∷ []) × (length bytes ≤ 21)) before after at r
-put-field value inside = put-then inside λ p q comma number. subst (λ (l : List ℕ). IsFields (l ++ q) (value ∷ []) × (length (l ++ q) ≤ 21)) (sym comma) (one-field q value (number .0), omega (arith, number .1))
+put-field value inside =
+    put-then inside λ p q comma number.
+    subst (λ (l : List ℕ). IsFields (l ++ q) (value ∷ []) × (length (l ++ q) ≤ 21)) (sym comma)
+    (one-field q value (number .0), omega (arith, number .1))
 
 -- One field more.
 pub put-field-more : {before mid after : List ℕ} {at end r : ℕ} (values : List ℕ) (i : ℕ) → i < length values → at ≤ length before
@@ -126,7 +144,9 @@ pub put-line : {before lettered filled after : List ℕ} {at first end r : ℕ} 
     → IsPut (λ bytes. bytes ≡ 10 ∷ []) filled after end r
     → IsPut (IsLine letter ns) before after at r
 put-line letter ns room inside begun fields ended =
-    let written = put-then {R = IsWritten letter ns} inside (λ p q one numbers. record { fields = q; begins = ap (λ (l : List ℕ). l ++ q) one; numbers = numbers .0 }) begun fields in
+    let written = put-then {R = IsWritten letter ns} inside
+    (λ p q one numbers. record { fields = q; begins = ap (λ (l : List ℕ). l ++ q) one; numbers = numbers .0 })
+    begun fields in
     put-then inside (λ p q line one. record { line = p; written = line; ended = ap (λ (l : List ℕ). p ++ l) one }) written ended
 
 -- the buffer stays as long as it was

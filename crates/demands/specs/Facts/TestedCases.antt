@@ -9,23 +9,25 @@ use native.Mathlib.Omega.{arith}
 use lib.Dec.{leb, ltb, eqb}
 use lib.ListN.{length, take}
 use borrow.Author.Tests.{leb-true, ltb-true, eqb-true, eqb-false, not-true, le-leb}
-use Rattle.basics.specs.Refusals.{Refusal, answer-of, answer-first, answer-later, AllPass, answer-after}
+use Rattle.basics.specs.Refusals.{Refusal, answer-of}
+use Rattle.basics.specs.Facts.Refusals.{answer-first, answer-later, AllPass, answer-after}
 use Rattle.rules.specs.Demand.{packets-by, demand, future, DemandRule, StartRule}
 use Rattle.rules.specs.Slots.{riders, goes-before, put-in-order, in-order, slots}
-use Rattle.rules.specs.LazyStart.{least-of, latest, lazy-start, lazy-start-is-lazy, lazy-unique, first-due, first-due-is-first}
-use Rattle.rules.specs.Tests.{both, all-below, is-table, is-busy, keeps-demand, keeps-start, is-ready, tested-demand, tested-ready}
+use Rattle.rules.specs.Facts.LazyStart.{least-of, latest, lazy-start, lazy-start-is-lazy, lazy-unique, first-due, first-due-is-first}
+use Rattle.rules.specs.Facts.Tests.{both, all-below, is-table, is-busy, keeps-demand, keeps-start, is-ready, tested-demand, tested-ready}
 use Rattle.table.specs.Changes.{put-by-id}
-use Rattle.planner.specs.Content.{Content, content, now-of, cap-of}
+use Rattle.planner.specs.Content.{Content, content, now-of, cap-of, slots-of, streams-in}
 use Rattle.planner.specs.Sound.{ContentSound, Sound}
-use Rattle.planner.specs.SoundFacts.{all-formed, fits-now, frame-is-busy}
-use Rattle.planner.specs.Open.{open-refusals}
-use Rattle.planner.specs.Calls.{added, unsound, bad-id, id-held, full, bad-period, bad-deadline, bad-start, breaks-demand, breaks-start, not-held, IsChange, IsAdd, IsRemove}
-use Rattle.planner.specs.Round.{IsStart, ids-at, rounded, IsRound}
-use Rattle.planner.specs.CallFacts.{refused-change, success-change, refused-round, success-round, held-exactly, seventeen-exactly}
+use Rattle.planner.specs.Facts.Sound.{all-formed, fits-now, frame-is-busy}
+use Rattle.planner.specs.Open.{Setting, open-refusals}
+use Rattle.planner.specs.AddRemove.{Offer, added, unsound, offer-refusals, breaks-demand, breaks-start, not-held, IsChange, IsAdd, IsRemove}
+use Rattle.planner.specs.Round.{ids-at, rounded, IsRound}
+use Rattle.planner.specs.Start.{IsStart}
+use Rattle.planner.specs.Facts.Calls.{refused-change, success-change, refused-round, success-round, held-exactly, seventeen-exactly}
 use Rattle.planner.specs.declared.Planner.{Planner}
 use Rattle.planner.specs.declared.Changed.{Changed}
 use Rattle.planner.specs.declared.Rounded.{Rounded}
-use Rattle.demands.specs.HeldFacts.{ids-written}
+use Rattle.demands.specs.Facts.Held.{ids-written}
 
 all-so : {a b : Bool} → So a → So b → So (a && b)
 all-so {a} {b} one other = and-eq-true-iff a b .1 (one, other)
@@ -44,13 +46,13 @@ tested-pass (r ∷ rs) tested =
     (λ applies. true≢false (sym (decide-iff (r .decided) .1 applies) ∙ not-true (decide (r .decided)) (split .0)), tested-pass rs (split .1))
 
 -- the numbers passed to open are in range
-unfoldable pub open-test : ℕ → ℕ → ℕ → ℕ → Bool
+unfoldable pub open-test : Setting → Bool
 unfolding passes decLe decLt Dec·and Dec·not
-open-test b f g t = passes (open-refusals b f g t)
+open-test s = passes (open-refusals s)
 
-pub open-succeeds : (b f g t : ℕ) → So (open-test b f g t) → answer-of (open-refusals b f g t) ≡ 0
+pub open-succeeds : (s : Setting) → So (open-test s) → answer-of (open-refusals s) ≡ 0
 unfolding open-test answer-of
-open-succeeds b f g t tested = answer-after (open-refusals b f g t) [] (tested-pass (open-refusals b f g t) tested)
+open-succeeds s tested = answer-after (open-refusals s) [] (tested-pass (open-refusals s) tested)
 
 all-pass-below : (f : ℕ → Bool) (n : ℕ) → ((k : ℕ) → So (f k)) → So (all-below f n)
 unfolding all-below
@@ -60,74 +62,72 @@ all-pass-below f (suc n) each = and-eq-true-iff (f n) (all-below f n) .1 (each n
 -- a table of which one frame of lengths tells whether it keeps the two rules
 unfoldable pub is-askable : Content → Bool
 unfolding is-table is-busy first-due
-is-askable h = is-table (h .table) && (is-busy (h .slots) (h .table) (h .frame) && ltb (now-of h) (first-due (h .table)))
+is-askable h = is-table (streams-in h) && (is-busy (slots-of h) (streams-in h) (h .frame) && ltb (now-of h) (first-due (streams-in h)))
 
 -- what the two rules answer to it
 unfoldable pub rules-answer : Content → ℕ
 unfolding keeps-demand keeps-start
-rules-answer h = cond (keeps-demand (h .slots) (h .table) (h .frame)) (cond (keeps-start (h .slots) (now-of h) (h .table) (h .frame)) 0 13) 12
+rules-answer h = cond (keeps-demand (slots-of h) (streams-in h) (h .frame)) (cond (keeps-start (slots-of h) (now-of h) (streams-in h) (h .frame)) 0 13) 12
 
 module _ (h : Content) where
-  demand-is-kept : DemandRule (h .slots) (h .table) → So (keeps-demand (h .slots) (h .table) (h .frame))
+  demand-is-kept : DemandRule (slots-of h) (streams-in h) → So (keeps-demand (slots-of h) (streams-in h) (h .frame))
   unfolding keeps-demand
   demand-is-kept rule =
-      all-pass-below (λ t. leb (demand (h .table) (t + 1)) (h .slots * (t + 1))) (h .frame)
-      (λ k. le-leb (demand (h .table) (k + 1)) (h .slots * (k + 1)) (rule (k + 1) (omega arith)))
+      all-pass-below (λ t. leb (demand (streams-in h) (t + 1)) (slots-of h * (t + 1))) (h .frame)
+      (λ k. le-leb (demand (streams-in h) (k + 1)) (slots-of h * (k + 1)) (rule (k + 1) (omega arith)))
 
-  start-is-kept : So (ltb (now-of h) (first-due (h .table))) → StartRule (h .slots) (now-of h) (h .table) → So (keeps-start (h .slots) (now-of h) (h .table) (h .frame))
+  start-is-kept : So (ltb (now-of h) (first-due (streams-in h))) → StartRule (slots-of h) (now-of h) (streams-in h)
+      → So (keeps-start (slots-of h) (now-of h) (streams-in h) (h .frame))
   unfolding keeps-start
   start-is-kept after rule =
-      let first = first-due (h .table) in
+      let first = first-due (streams-in h) in
       let later = ltb-true (now-of h) first after in
-      and-eq-true-iff (ltb (now-of h) first) (all-below (λ t. leb (future (h .table) (first + t)) (h .slots * (first + t - now-of h))) (h .frame)) .1 (
+      let fits : ℕ → Bool = λ t. leb (future (streams-in h) (first + t)) (slots-of h * (first + t - now-of h)) in
+      and-eq-true-iff (ltb (now-of h) first) (all-below fits (h .frame)) .1 (
         after,
-        all-pass-below (λ t. leb (future (h .table) (first + t)) (h .slots * (first + t - now-of h))) (h .frame)
-            (λ k. le-leb (future (h .table) (first + k)) (h .slots * (first + k - now-of h)) (rule (first + k) (omega (arith, later)))),
+        all-pass-below fits (h .frame)
+            (λ k. le-leb (future (streams-in h) (first + k)) (slots-of h * (first + k - now-of h)) (rule (first + k) (omega (arith, later)))),
       )
 
   rules-answered : So (is-askable h) → answer-of (breaks-demand h ∷ breaks-start h ∷ []) ≡ rules-answer h
   unfolding is-askable rules-answer answer-of is-ready
-  rules-answered tested = go (keeps-demand (h .slots) (h .table) (h .frame)) (keeps-start (h .slots) (now-of h) (h .table) (h .frame)) refl refl
+  rules-answered tested = go (keeps-demand (slots-of h) (streams-in h) (h .frame)) (keeps-start (slots-of h) (now-of h) (streams-in h) (h .frame)) refl refl
     where
-      formed : So (is-table (h .table)) × So (is-busy (h .slots) (h .table) (h .frame) && ltb (now-of h) (first-due (h .table)))
+      formed : So (is-table (streams-in h)) × So (is-busy (slots-of h) (streams-in h) (h .frame) && ltb (now-of h) (first-due (streams-in h)))
       formed = both tested
 
-      busy : So (is-busy (h .slots) (h .table) (h .frame)) × So (ltb (now-of h) (first-due (h .table)))
+      busy : So (is-busy (slots-of h) (streams-in h) (h .frame)) × So (ltb (now-of h) (first-due (streams-in h)))
       busy = both (formed .1)
 
-      go : (demand-kept start-kept : Bool) → keeps-demand (h .slots) (h .table) (h .frame) ≡ demand-kept → keeps-start (h .slots) (now-of h) (h .table) (h .frame) ≡ start-kept
+      go : (demand-kept start-kept : Bool)
+          → keeps-demand (slots-of h) (streams-in h) (h .frame) ≡ demand-kept
+          → keeps-start (slots-of h) (now-of h) (streams-in h) (h .frame) ≡ start-kept
           → answer-of (breaks-demand h ∷ breaks-start h ∷ []) ≡ cond demand-kept (cond start-kept 0 13) 12
       go false start-kept breaks later =
           answer-first (breaks-demand h) (breaks-start h ∷ []) (λ rule. true≢false (sym (demand-is-kept rule) ∙ breaks))
       go true false keeps breaks =
-          answer-later (breaks-demand h) (breaks-start h ∷ []) (λ fails. fails (tested-demand (h .slots) (h .frame) (h .table) (formed .0) (busy .0) keeps))
+          let rule = tested-demand (slots-of h) (h .frame) (streams-in h) (formed .0) (busy .0) keeps in
+          answer-later (breaks-demand h) (breaks-start h ∷ []) (λ fails. fails rule)
           ∙ answer-first (breaks-start h) [] (λ rule. true≢false (sym (start-is-kept (busy .1) rule) ∙ breaks))
       go true true keeps keeps-too =
-          let ready = tested-ready (h .slots) (now-of h) (h .frame) (h .table) (all-so (formed .0) (all-so (busy .0) (all-so keeps keeps-too))) in
-          answer-later (breaks-demand h) (breaks-start h ∷ []) (λ fails. fails (ready .demand-rule)) ∙ answer-later (breaks-start h) [] (λ fails. fails (ready .start-rule))
-
--- 6 to 11 of add, asked of what the planner holds
-abbrev offer-refusals : Content → ℕ → ℕ → ℕ → ℕ → List Refusal
-offer-refusals h id start period deadline =
-    bad-id id ∷ id-held id h ∷ full h ∷ bad-period period h ∷ bad-deadline deadline period ∷ bad-start start h ∷ []
+          let ready = tested-ready (slots-of h) (now-of h) (h .frame) (streams-in h) (all-so (formed .0) (all-so (busy .0) (all-so keeps keeps-too))) in
+          answer-later (breaks-demand h) (breaks-start h ∷ []) (λ fails. fails (ready .demand-rule))
+          ∙ answer-later (breaks-start h) [] (λ fails. fails (ready .start-rule))
 
 -- a well-formed stream, offered where a place is free, gets this answer
-unfoldable pub add-test : Content → ℕ → ℕ → ℕ → ℕ → ℕ → Bool
+unfoldable pub add-test : Content → Offer → ℕ → Bool
 unfolding passes decLe decLt decDvd ℕ-discrete Dec·and Dec·not put-by-id is-askable rules-answer
-add-test h id start period deadline answer =
-    passes (offer-refusals h id start period deadline)
-    && (is-askable (added h id start period deadline) && eqb (rules-answer (added h id start period deadline)) answer)
+add-test h o answer = passes (offer-refusals h o) && (is-askable (added h o) && eqb (rules-answer (added h o)) answer)
 
-pub add-answered : (p : Planner) → Sound p → (id start period deadline answer : ℕ) → So (add-test (content p) id start period deadline answer)
-    → (r : Changed) → IsAdd p id start period deadline r → r .answer ≡ answer
+pub add-answered : (p : Planner) → Sound p → (o : Offer) (answer : ℕ) → So (add-test (content p) o answer) → (r : Changed) → IsAdd p o r → r .answer ≡ answer
 unfolding add-test AllPass
-add-answered p sound id start period deadline answer tested r is =
-    let with-it = added (content p) id start period deadline in
-    let offer : So (passes (offer-refusals (content p) id start period deadline)) × So (is-askable with-it && eqb (rules-answer with-it) answer) = both tested in
-    let rules : So (is-askable with-it) × So (eqb (rules-answer with-it) answer) = both (offer .1) in
+add-answered p sound o answer tested r is =
+    let with-it = added (content p) o in
+    let offer-passes : So (passes (offer-refusals (content p) o)) × So (is-askable with-it && eqb (rules-answer with-it) answer) = both tested in
+    let rules : So (is-askable with-it) × So (eqb (rules-answer with-it) answer) = both (offer-passes .1) in
     is .answer
-    ∙ answer-after (unsound p ∷ offer-refusals (content p) id start period deadline) (breaks-demand with-it ∷ breaks-start with-it ∷ [])
-    (λ fails. fails sound, tested-pass (offer-refusals (content p) id start period deadline) (offer .0))
+    ∙ answer-after (unsound p ∷ offer-refusals (content p) o) (breaks-demand with-it ∷ breaks-start with-it ∷ [])
+    (λ fails. fails sound, tested-pass (offer-refusals (content p) o) (offer-passes .0))
     ∙ rules-answered with-it (rules .0)
     ∙ eqb-true (rules-answer with-it) answer (rules .1)
 
@@ -139,13 +139,16 @@ remove-test h id answer = eqb (answer-of (not-held id h ∷ [])) answer
 pub remove-answered : (p : Planner) → Sound p → (id answer : ℕ) → So (remove-test (content p) id answer) → (r : Changed) → IsRemove p id r → r .answer ≡ answer
 unfolding remove-test
 remove-answered p sound id answer tested r is =
-    is .answer ∙ answer-later (unsound p) (not-held id (content p) ∷ []) (λ fails. fails sound) ∙ eqb-true (answer-of (not-held id (content p) ∷ [])) answer tested
+    is .answer
+    ∙ answer-later (unsound p) (not-held id (content p) ∷ []) (λ fails. fails sound)
+    ∙ eqb-true (answer-of (not-held id (content p) ∷ [])) answer tested
 
 -- what a planner that held h holds after this answer to a change that would have left `changed`
 abbrev pub after-change : Content → Content → ℕ → Content
 after-change h changed answer = cond (eqb answer 0) changed h
 
-pub change-leaves : {refusals : List Refusal} {p : Planner} {changed : Content} {r : Changed} → IsChange refusals p changed r → (answer : ℕ) → r .answer ≡ answer
+pub change-leaves : {refusals : List Refusal} {p : Planner} {changed : Content} {r : Changed} → IsChange refusals p changed r
+    → (answer : ℕ) → r .answer ≡ answer
     → content (r .planner) ≡ after-change (content p) changed answer
 change-leaves {refusals} {p} {changed} {r} is answer answered = go (eqb answer 0) refl
   where
@@ -156,13 +159,13 @@ change-leaves {refusals} {p} {changed} {r} is answer answered = go (eqb answer 0
 -- the start, looked for in one frame of lengths
 unfoldable pub start-in : Content → ℕ
 unfolding lazy-start least-of latest first-due future packets-by decLe decLt
-start-in h = lazy-start (h .slots) (cap-of h) (h .table) (first-due (h .table)) (h .frame)
+start-in h = lazy-start (slots-of h) (cap-of h) (streams-in h) (first-due (streams-in h)) (h .frame)
 
 start-in-is-start : (h : Content) → ContentSound h → IsStart h (start-in h)
 unfolding start-in
 start-in-is-start h sound =
-    lazy-start-is-lazy (h .slots) (cap-of h) (h .table) (now-of h) (fits-now h sound) (sound .in-range .slots .0) (h .frame) (first-due (h .table)) (all-formed h sound)
-    (frame-is-busy h sound) (first-due-is-first (h .table) (all-formed h sound))
+    lazy-start-is-lazy (slots-of h) (cap-of h) (streams-in h) (now-of h) (fits-now h sound) (sound .in-range .slots .0) (h .frame) (first-due (streams-in h))
+    (all-formed h sound) (frame-is-busy h sound) (first-due-is-first (streams-in h) (all-formed h sound))
 
 -- the same ids in the same order
 unfoldable pub same-ids : List ℕ → List ℕ → Bool
@@ -202,7 +205,7 @@ module _ (p : Planner) (sound : Sound p) (before after : List ℕ) (r : Rounded)
       let start : IsStart h s = subst (IsStart h) (eqb-true (start-in h) s (at .0)) (start-in-is-start h (sound .content-sound)) in
       let zero = is .answer ∙ held-exactly p before sound long s start .1 (leb-true s 1_000_000_000 (at .1)) in
       let w = success-round is zero in
-      let same : r .start ≡ s = lazy-unique (h .slots) (cap-of h) (h .table) (r .start) s (w .start) start in
+      let same : r .start ≡ s = lazy-unique (slots-of h) (cap-of h) (streams-in h) (r .start) s (w .start) start in
       let written : ids-at h (r .start) ≡ ids = ap (ids-at h) same ∙ tested-ids (ids-at h s) ids (places .1) in (
         (zero, same, w .n ∙ ap length written ∙ eqb-true (length ids) n (places .0), ids-written p before after r w ∙ written),
         w .planner .holds ∙ ap (rounded h) same,
@@ -212,6 +215,6 @@ module _ (p : Planner) (sound : Sound p) (before after : List ℕ) (r : Rounded)
   unfolding late-test
   round-late tested =
       let h = content p in
-      let seventeen : r .answer ≡ 17 =
-      is .answer ∙ seventeen-exactly p before sound long (start-in h) (start-in-is-start h (sound .content-sound)) .1 (ltb-true 1_000_000_000 (start-in h) tested) in
+      let exactly = seventeen-exactly p before sound long (start-in h) (start-in-is-start h (sound .content-sound)) in
+      let seventeen : r .answer ≡ 17 = is .answer ∙ exactly .1 (ltb-true 1_000_000_000 (start-in h) tested) in
       (seventeen, refused-round is (λ zero. omega (arith, seventeen, zero)) .planner)

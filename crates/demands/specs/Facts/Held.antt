@@ -2,55 +2,72 @@
 use mathlib.Core.Path.{_≡_, refl, sym, ap, subst, subst⁻¹, _∙_}
 use mathlib.Core.Logic.{⊎-elim, ∥∥₁-map}
 use mathlib.Core.List.{List, [], _∷_, _++_, List·Mem, List·Nodup, map, map-id, map-map, map-append, map-congr-left, mem-map-of-mem, append-assoc}
-use Prim.Native.Nat.{ℕ, _+_, _-_, _≤_, _<_}
+use Prim.Native.Nat.{ℕ, _+_, _-_, _*_, _≤_, _<_}
 use native.Mathlib.Nat.{lt-irrefl, lt-of-lt-of-le}
 use native.Mathlib.Decide.{decLt}
 use native.Mathlib.Omega.{arith}
 use lib.ListN.{length, take, drop, getD, length-map, List·getD-map}
 use lib.Seq.{take-at}
 use Rattle.rules.specs.Streams.{Stream, Packet, packet, MayRide, PacketOf}
-use Rattle.rules.specs.Slots.{slots, served, Served, passed, after-round}
+use Rattle.rules.specs.Slots.{slots, served, Served}
 use Rattle.rules.specs.Plans.{Round}
 use Rattle.rules.specs.Runs.{State, Held, none, then, round-at, after}
-use Rattle.rules.specs.Sums.{Fits}
-use Rattle.rules.specs.SlotFacts.{IsChoice, choice-differ}
-use Rattle.rules.specs.RoundKept.{round-choice, served-iff}
-use Rattle.rules.specs.PacketFacts.{advanced, advanced-none, packet-advanced, packet-due-after}
-use Rattle.rules.specs.Calls.{IsReadyState}
-use Rattle.rules.specs.Fewest.{held-fewest}
-use Rattle.planner.specs.Content.{Content, content, now-of, cap-of, start-gap-of}
+use Rattle.rules.specs.Ready.{Fits, IsReadyState}
+use Rattle.rules.specs.Facts.Slots.{IsChoice, choice-differ}
+use Rattle.rules.specs.Facts.RoundKept.{round-choice, served-iff}
+use Rattle.rules.specs.Facts.Packets.{advanced, advanced-none, packet-advanced, packet-due-after}
+use Rattle.rules.specs.Facts.Fewest.{held-fewest}
+use Rattle.table.specs.Table.{stream-of}
+use Rattle.table.specs.declared.Record.{Record}
+use Rattle.planner.specs.Content.{Content, content, slots-of, streams-in, now-of, cap-of, start-gap-of, with-table, with-last}
 use Rattle.planner.specs.Sound.{ContentSound, Sound}
-use Rattle.planner.specs.SoundFacts.{all-formed, content-ready}
-use Rattle.planner.specs.Round.{IsStart, StartsLate, ids-at, rounded, IsHeldRound}
-use Rattle.planner.specs.CallFacts.{refused-change, refused-round, success-round, held-is-not-late, seventeen-is-late}
+use Rattle.planner.specs.Facts.Sound.{all-formed, content-ready}
+use Rattle.planner.specs.Facts.Kept.{sent-at, seen-sent-at, rounded-streams}
+use Rattle.planner.specs.Round.{ids-at, rounded, IsHeldRound}
+use Rattle.planner.specs.Start.{IsStart, StartsLate}
+use Rattle.planner.specs.Facts.Calls.{refused-change, refused-round, success-round, held-is-not-late, seventeen-is-late}
 use Rattle.planner.specs.declared.Planner.{Planner}
 use Rattle.planner.specs.declared.Rounded.{Rounded}
-use Rattle.demands.specs.Calls.{HeldRound, held-round, Calls, none, add, remove, refused, held, ClockEnded, times-in, times-sent, IsSentInTime, end-of, start-of}
+use Rattle.demands.specs.CallLists.{Calls, none, asked, refused, held, ClockEnded}
+use Rattle.demands.specs.CallLists.{HeldRound, held-round, times-in, times-sent, IsSentInTime, end-of, start-of}
 use Rattle.demands.specs.Rivals.{IsRivalOf}
-use Rattle.demands.specs.CallFacts.{stands-once, stands-never, times-sent-snoc, passes-as-sent, last-of, last-snoc, last-is-end}
+use Rattle.demands.specs.Facts.CallLists.{stands-once, stands-never, times-sent-snoc, passes-as-sent, last-of, last-snoc, last-is-end}
 
 -- a stream with the packets sent that the rounds say
 abbrev pub sent-in : List HeldRound → Stream → Stream
 sent-in rounds s = advanced (times-sent (s .number) rounds) s
 
+-- the same of a record
+abbrev pub record-sent : List HeldRound → Record → Record
+record-sent rounds r =
+    record { id = r .id; period = r .period; deadline = r .deadline; release = r .release + times-sent (r .id) rounds * r .period }
+
 -- what a planner that held h holds after these rounds
 abbrev pub after-rounds : Content → List HeldRound → Content
-after-rounds h rounds = record { slots = h .slots; frame = h .frame; gap = h .gap; last = last-of (h .last) rounds; table = map (sent-in rounds) (h .table) }
+after-rounds h rounds = with-table (with-last h (last-of (h .last) rounds)) (map (record-sent rounds) (h .table))
+
+-- and what the rules see of it
+seen-after : (h : Content) (rounds : List HeldRound) → streams-in (after-rounds h rounds) ≡ map (sent-in rounds) (streams-in h)
+seen-after h rounds = map-map stream-of (record-sent rounds) (h .table) ∙ sym (map-map (sent-in rounds) stream-of (h .table))
 
 -- the round at s of the lazy rule's slots
 abbrev pub slots-round : Content → ℕ → HeldRound
 slots-round h s = record { start = s; ids = ids-at h s }
 
 abbrev pub state-of : Content → State
-state-of h = record { now = now-of h; cap = cap-of h; table = h .table }
+state-of h = record { now = now-of h; cap = cap-of h; table = streams-in h }
 
 -- c is what h has become by these rounds, each of them lazy, and whatever they sent was in time
 pub record Follows (h : Content) (rounds : List HeldRound) (c : Content) : Type 0 where
   pub holds : c ≡ after-rounds h rounds
   pub played : List Round
-  pub lazy : Held (h .slots) (start-gap-of h) (state-of h) played (state-of c)
+  pub lazy : Held (slots-of h) (start-gap-of h) (state-of h) played (state-of c)
   pub starts : map (λ (r : Round). r .start) played ≡ map (λ (r : HeldRound). r .start) rounds
-  pub in-time : (s : Stream) → List·Mem s (h .table) → (m : ℕ) → m < times-sent (s .number) rounds → IsSentInTime rounds s m
+  pub in-time : (s : Stream) → List·Mem s (streams-in h) → (m : ℕ) → m < times-sent (s .number) rounds → IsSentInTime rounds s m
+
+-- records that the rules see alike are equal
+same-seen : {q r : Record} → stream-of q ≡ stream-of r → q ≡ r
+same-seen same = λ i. record { id = same i .number; period = same i .period; deadline = same i .deadline; release = same i .release }
 
 -- before the first round
 no-rounds : (h : Content) → Follows h [] h
@@ -58,8 +75,9 @@ unfolding last-of times-sent
 no-rounds h =
     record {
       holds =
-          let table : map (sent-in []) (h .table) ≡ h .table = map-congr-left {l = h .table} (λ s m. advanced-none s) ∙ map-id (h .table) in
-          λ i. record { slots = h .slots; frame = h .frame; gap = h .gap; last = h .last; table = sym table i };
+          let table : map (record-sent []) (h .table) ≡ h .table =
+          map-congr-left {l = h .table} (λ r m. same-seen (advanced-none (stream-of r))) ∙ map-id (h .table) in
+          ap (with-table h) (sym table);
       played = [];
       lazy = none;
       starts = refl;
@@ -71,28 +89,36 @@ module _ (h : Content) (rounds : List HeldRound) (sound : ContentSound (after-ro
   so-far = after-rounds h rounds
 
   abbrev chosen : List Stream
-  chosen = slots (h .slots) s (so-far .table)
+  chosen = slots (slots-of h) s (streams-in so-far)
 
-  is-choice : IsChoice (h .slots) s (so-far .table) chosen
-  is-choice = round-choice (h .slots) (now-of so-far) (so-far .table) (content-ready so-far sound) (sound .in-range .slots .0) (cap-of so-far) s s start (omega arith)
+  is-choice : IsChoice (slots-of h) s (streams-in so-far) chosen
+  is-choice =
+      round-choice (slots-of h) (now-of so-far) (streams-in so-far) (content-ready so-far sound) (sound .in-range .slots .0) (cap-of so-far)
+      s s start (omega arith)
 
   ids-differ : List·Nodup (ids-at so-far s)
-  ids-differ = choice-differ (h .slots) s (so-far .table) chosen (content-ready so-far sound .table) is-choice
+  ids-differ = choice-differ (slots-of h) s (streams-in so-far) chosen (content-ready so-far sound .table) is-choice
 
   -- a round leaves what the rounds with it leave
   one-more-holds : rounded so-far s ≡ after-rounds h (rounds ++ (slots-round so-far s ∷ []))
-  unfolding after-round
   one-more-holds =
       let last : s ≡ last-of (h .last) (rounds ++ (slots-round so-far s ∷ [])) = sym (last-snoc (h .last) rounds (slots-round so-far s)) in
-      let table : map (passed chosen) (map (sent-in rounds) (h .table)) ≡ map (sent-in (rounds ++ (slots-round so-far s ∷ []))) (h .table) =
-      map-map (passed chosen) (sent-in rounds) (h .table)
-      ∙ map-congr-left {l = h .table} (λ x m.
-      passes-as-sent chosen ids-differ (times-sent (x .number) rounds) x ∙ ap (λ (k : ℕ). advanced k x) (sym (times-sent-snoc (x .number) rounds (slots-round so-far s)))) in
-      λ i. record { slots = h .slots; frame = h .frame; gap = h .gap; last = last i; table = table i }
+      let table : rounded so-far s .table ≡ map (record-sent (rounds ++ (slots-round so-far s ∷ []))) (h .table) =
+      map-map (sent-at so-far s) (record-sent rounds) (h .table) ∙ map-congr-left {l = h .table} (λ r m. same-seen (one-sent r)) in
+      λ i. with-table (with-last h (last i)) (table i)
+    where
+      one-sent : (r : Record) → stream-of (sent-at so-far s (record-sent rounds r)) ≡ sent-in (rounds ++ (slots-round so-far s ∷ [])) (stream-of r)
+      one-sent r =
+          let x = stream-of r in
+          seen-sent-at so-far s (record-sent rounds r) ∙ passes-as-sent chosen ids-differ (times-sent (x .number) rounds) x
+          ∙ ap (λ (k : ℕ). advanced k x) (sym (times-sent-snoc (x .number) rounds (slots-round so-far s)))
+
+  still-there : (x : Stream) → List·Mem x (streams-in h) → List·Mem (sent-in rounds x) (streams-in so-far)
+  still-there x there = subst⁻¹ (List·Mem (sent-in rounds x)) (seen-after h rounds) (mem-map-of-mem (sent-in rounds) there)
 
   -- what an id in the round sends may ride
-  sent-rides : (x : Stream) → List·Mem x (h .table) → (m : ℕ) → times-sent (x .number) rounds ≤ m → m < times-sent (x .number) rounds + times-in (x .number) (ids-at so-far s)
-      → MayRide (packet x m) s
+  sent-rides : (x : Stream) → List·Mem x (streams-in h) → (m : ℕ) → times-sent (x .number) rounds ≤ m
+      → m < times-sent (x .number) rounds + times-in (x .number) (ids-at so-far s) → MayRide (packet x m) s
   sent-rides x there m from below = go (served chosen x)
     where
       go : Dec (Served chosen x) → MayRide (packet x m) s
@@ -100,40 +126,46 @@ module _ (h : Content) (rounds : List HeldRound) (sound : ContentSound (after-ro
       go (yes here) =
           let y = sent-in rounds x in
           let slot : List·Mem y chosen =
-          served-iff (so-far .table) chosen (content-ready so-far sound .table) (is-choice .inside) y (mem-map-of-mem (sent-in rounds) there) .0 here in
+          served-iff (streams-in so-far) chosen (content-ready so-far sound .table) (is-choice .inside) y (still-there x there) .0 here in
           let m-th : times-sent (x .number) rounds + 0 ≡ m = omega (arith, from, below, stands-once (x .number) (ids-at so-far s) ids-differ here) in
           subst (λ (q : Packet). MayRide q s) (packet-advanced x (times-sent (x .number) rounds) 0 ∙ ap (packet x) m-th) (is-choice .ride y slot)
 
   -- the cap of the theory's next state, counted from the round's start, is the planner's, counted from its end
-  state-after : after (h .slots) (start-gap-of h) (state-of so-far) s ≡ state-of (rounded so-far s)
-  state-after = ap (λ (cap : ℕ). record { now = s + 1; cap = cap; table = rounded so-far s .table }) (omega arith)
+  state-after : after (slots-of h) (start-gap-of h) (state-of so-far) s ≡ state-of (rounded so-far s)
+  state-after =
+      let cap : s + start-gap-of h ≡ cap-of (rounded so-far s) = omega arith in
+      let table = sym (rounded-streams so-far sound s) in
+      λ i. record { now = s + 1; cap = cap i; table = table i }
 
   -- the round follows those before it
   one-more : Follows h rounds so-far → Follows h (rounds ++ (slots-round so-far s ∷ [])) (rounded so-far s)
   one-more follows =
       record {
         holds = one-more-holds;
-        played = follows .played ++ (round-at (h .slots) (state-of so-far) s ∷ []);
+        played = follows .played ++ (round-at (slots-of h) (state-of so-far) s ∷ []);
         lazy =
-            subst (Held (h .slots) (start-gap-of h) (state-of h) (follows .played ++ (round-at (h .slots) (state-of so-far) s ∷ []))) state-after
+            subst (Held (slots-of h) (start-gap-of h) (state-of h) (follows .played ++ (round-at (slots-of h) (state-of so-far) s ∷ []))) state-after
             (then (follows .lazy) s start);
         starts =
-            map-append (λ (r : Round). r .start) (follows .played) (round-at (h .slots) (state-of so-far) s ∷ [])
+            map-append (λ (r : Round). r .start) (follows .played) (round-at (slots-of h) (state-of so-far) s ∷ [])
             ∙ ap (λ (xs : List ℕ). xs ++ (s ∷ [])) (follows .starts)
             ∙ sym (map-append (λ (r : HeldRound). r .start) rounds (slots-round so-far s ∷ []));
-        in-time = λ x there m below. go x there m (rw (times-sent-snoc (x .number) rounds (slots-round so-far s)) at below) (decLt m (times-sent (x .number) rounds));
+        in-time = λ x there m below.
+            go x there m (rw (times-sent-snoc (x .number) rounds (slots-round so-far s)) at below) (decLt m (times-sent (x .number) rounds));
       }
     where
-      go : (x : Stream) → List·Mem x (h .table) → (m : ℕ) → m < times-sent (x .number) rounds + times-in (x .number) (ids-at so-far s) → Dec (m < times-sent (x .number) rounds)
-          → IsSentInTime (rounds ++ (slots-round so-far s ∷ [])) x m
+      go : (x : Stream) → List·Mem x (streams-in h) → (m : ℕ) → m < times-sent (x .number) rounds + times-in (x .number) (ids-at so-far s)
+          → Dec (m < times-sent (x .number) rounds) → IsSentInTime (rounds ++ (slots-round so-far s ∷ [])) x m
       go x there m below (yes earlier) =
+          let one = slots-round so-far s ∷ [] in
           ∥∥₁-map (follows .in-time x there m earlier)
           (λ (earlier, (r, (later, (split, sent)))). (
             earlier,
-            (r, (later ++ (slots-round so-far s ∷ []), (ap (λ (xs : List HeldRound). xs ++ (slots-round so-far s ∷ [])) split ∙ append-assoc earlier (r ∷ later) (slots-round so-far s ∷ []), sent))),
+            (r, (later ++ one, (ap (λ (xs : List HeldRound). xs ++ one) split ∙ append-assoc earlier (r ∷ later) one, sent))),
           ))
       go x there m below (no now) =
-          ∣ (rounds, (slots-round so-far s, ([], (refl, record { not-before = omega arith; here = below; in-time = sent-rides x there m (omega arith) below })))) ∣₁
+          let rides = sent-rides x there m (omega arith) below in
+          ∣ (rounds, (slots-round so-far s, ([], (refl, record { not-before = omega arith; here = below; in-time = rides })))) ∣₁
 
 -- the ids in the first n places are those of the slots
 pub ids-written : (q : Planner) (before after : List ℕ) (r : Rounded) → IsHeldRound q before after r → take (r .n) after ≡ ids-at (content q) (r .start)
@@ -144,7 +176,8 @@ held-is-lazy : (q : Planner) (before after : List ℕ) (r : Rounded) → IsHeldR
 held-is-lazy q before after r is = λ i. record { start = r .start; ids = ids-written q before after r is i }
 
 -- one round more, said of what the planner holds
-one-round : (h : Content) (rounds : List HeldRound) (c : Content) → Follows h rounds c → ContentSound c → (s : ℕ) → IsStart c s → Follows h (rounds ++ (slots-round c s ∷ [])) (rounded c s)
+one-round : (h : Content) (rounds : List HeldRound) (c : Content) → Follows h rounds c → ContentSound c → (s : ℕ) → IsStart c s
+    → Follows h (rounds ++ (slots-round c s ∷ [])) (rounded c s)
 one-round h rounds c follows sound s start =
     subst⁻¹ (λ (d : Content). Follows h rounds d → ContentSound d → IsStart d s → Follows h (rounds ++ (slots-round d s ∷ [])) (rounded d s)) (follows .holds)
     (λ so-far is-sound is-start. one-more h rounds is-sound s is-start so-far) follows sound start
@@ -155,9 +188,9 @@ AfterCalls p rounds q = Sound q × Follows (content p) rounds (content q)
 -- after a list of calls the planner is sound and holds what its held rounds leave
 pub calls-follow : (p : Planner) → Sound p → {rounds : List HeldRound} {q : Planner} → Calls p rounds q → AfterCalls p rounds q
 calls-follow p sound none = (sound, no-rounds (content p))
-calls-follow p sound (add {rounds} calls id start period deadline r is nonzero) = subst⁻¹ (AfterCalls p rounds) (refused-change is nonzero) (calls-follow p sound calls)
-calls-follow p sound (remove {rounds} calls id r is nonzero) = subst⁻¹ (AfterCalls p rounds) (refused-change is nonzero) (calls-follow p sound calls)
-calls-follow p sound (refused {rounds} calls before after r is nonzero) = subst⁻¹ (AfterCalls p rounds) (refused-round is nonzero .planner) (calls-follow p sound calls)
+calls-follow p sound (asked {rounds} calls call r is nonzero) = subst⁻¹ (AfterCalls p rounds) (refused-change is nonzero) (calls-follow p sound calls)
+calls-follow p sound (refused {rounds} calls before after r is nonzero) =
+    subst⁻¹ (AfterCalls p rounds) (refused-round is nonzero .planner) (calls-follow p sound calls)
 calls-follow p sound (held {rounds} {q} calls before after r is zero) =
     let w = success-round is zero in
     let ih = calls-follow p sound calls in (
@@ -171,8 +204,7 @@ calls-follow p sound (held {rounds} {q} calls before after r is zero) =
 pub clock-stays : {p : Planner} {rounds : List HeldRound} {q : Planner} → (calls : Calls p rounds q) → ClockEnded calls → StartsLate q
 unfolding ClockEnded
 clock-stays none ended = absurd ended
-clock-stays (add calls id start period deadline r is nonzero) ended = subst⁻¹ StartsLate (refused-change is nonzero) (clock-stays calls ended)
-clock-stays (remove calls id r is nonzero) ended = subst⁻¹ StartsLate (refused-change is nonzero) (clock-stays calls ended)
+clock-stays (asked calls call r is nonzero) ended = subst⁻¹ StartsLate (refused-change is nonzero) (clock-stays calls ended)
 clock-stays (refused {q} calls before after r is nonzero) ended =
     subst⁻¹ StartsLate (refused-round is nonzero .planner)
     (⊎-elim (λ seventeen. seventeen-is-late q before (sym (is .answer) ∙ seventeen)) (λ earlier. clock-stays calls earlier) ended)
@@ -180,7 +212,8 @@ clock-stays (held {q} calls before after r is zero) ended = absurd (held-is-not-
 
 module _ (h : Content) (rounds : List HeldRound) (c : Content) (follows : Follows h rounds c) where
   -- where everything fits at x in the end, every packet due by x has been sent in time
-  pub sent-unless-later : ContentSound c → (x : ℕ) → Fits (c .slots) x (c .table) → (s : Stream) → List·Mem s (h .table) → (m : ℕ) → packet s m .due ≤ x → IsSentInTime rounds s m
+  pub sent-unless-later : ContentSound c → (x : ℕ) → Fits (slots-of c) x (streams-in c) → (s : Stream) → List·Mem s (streams-in h)
+      → (m : ℕ) → packet s m .due ≤ x → IsSentInTime rounds s m
   sent-unless-later sound x fits s there m early = go (decLt m (times-sent (s .number) rounds))
     where
       go : Dec (m < times-sent (s .number) rounds) → IsSentInTime rounds s m
@@ -188,10 +221,10 @@ module _ (h : Content) (rounds : List HeldRound) (c : Content) (follows : Follow
       go (no waiting) =
           let k = times-sent (s .number) rounds in
           let rest : k + (m - k) ≡ m = omega arith in
-          let waits : PacketOf (c .table) (packet s m) =
-          subst⁻¹ (λ (d : Content). PacketOf (d .table) (packet s m)) (follows .holds)
+          let waits : PacketOf (streams-in c) (packet s m) =
+          subst⁻¹ (λ (ss : List Stream). PacketOf ss (packet s m)) (ap streams-in (follows .holds) ∙ seen-after h rounds)
           ∣ (sent-in rounds s, mem-map-of-mem (sent-in rounds) there, (m - k, sym (packet-advanced s k (m - k) ∙ ap (packet s) rest))) ∣₁ in
-          absurd (lt-irrefl x (lt-of-lt-of-le (packet-due-after (c .slots) x (c .table) (all-formed c sound) fits (packet s m) waits) early))
+          absurd (lt-irrefl x (lt-of-lt-of-le (packet-due-after (slots-of c) x (streams-in c) (all-formed c sound) fits (packet s m) waits) early))
 
   -- now is the end of the last round
   pub now-is-end : now-of c ≡ end-of (now-of h) rounds
@@ -201,11 +234,13 @@ module _ (h : Content) (rounds : List HeldRound) (c : Content) (follows : Follow
   pub rival-never-later : ContentSound h → (plan : ℕ → Round) → IsRivalOf h plan → (k : ℕ) → k < length rounds
       → plan k .start ≤ start-of rounds k
   rival-never-later sound plan rival k below =
-      let ready : IsReadyState (h .slots) (state-of h) = record { ready = content-ready h sound; open-cap = omega arith } in
+      let ready : IsReadyState (slots-of h) (state-of h) = record { ready = content-ready h sound; open-cap = omega arith } in
       let many : length (follows .played) ≡ length rounds =
       sym (length-map (follows .played) (λ (r : Round). r .start)) ∙ ap (length {A = ℕ}) (follows .starts) ∙ length-map rounds (λ (r : HeldRound). r .start) in
       let same : getD (follows .played) k (record { start = 0; packets = [] }) .start ≡ start-of rounds k =
-      sym (List·getD-map (λ (r : Round). r .start) (follows .played) k (record { start = 0; packets = [] })) ∙ ap (λ (xs : List ℕ). getD xs k 0) (follows .starts)
+      sym (List·getD-map (λ (r : Round). r .start) (follows .played) k (record { start = 0; packets = [] }))
+      ∙ ap (λ (xs : List ℕ). getD xs k 0) (follows .starts)
       ∙ List·getD-map (λ (r : HeldRound). r .start) rounds k (record { start = 0; ids = [] }) in
       subst (λ (x : ℕ). plan k .start ≤ x) same
-      (held-fewest (h .slots) (start-gap-of h) (sound .in-range .slots .0) (omega arith) (state-of h) ready plan rival (follows .lazy) k (subst⁻¹ (λ (n : ℕ). k < n) many below))
+      (held-fewest (slots-of h) (start-gap-of h) (sound .in-range .slots .0) (omega arith) (state-of h) ready plan rival (follows .lazy) k
+      (subst⁻¹ (λ (n : ℕ). k < n) many below))

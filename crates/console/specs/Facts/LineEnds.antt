@@ -39,7 +39,8 @@ before-the-end (x ∷ a) m (y ∷ line) more none-there same =
     (b, (ap (λ (l : List ℕ). y ∷ l) is-line ∙ ap (λ (z : ℕ). z ∷ (a ++ b)) (sym (head-eq-of-cons-eq same)), is-m))
 
 -- the bytes from a place on, up to the next line end and behind it
-pub split-line : (bytes : List ℕ) (from to : ℕ) → IsLineEnd bytes from to → to < length bytes → drop from bytes ≡ part-of bytes from to ++ (10 ∷ drop (to + 1) bytes)
+pub split-line : (bytes : List ℕ) (from to : ℕ) → IsLineEnd bytes from to → to < length bytes
+    → drop from bytes ≡ part-of bytes from to ++ (10 ∷ drop (to + 1) bytes)
 split-line bytes from to line-end inside =
     let back : from + (to - from) ≡ to = omega (arith, line-end .after) in
     sym (take-append-drop (to - from) (drop from bytes))

@@ -10,7 +10,7 @@ use native.Mathlib.Omega.{arith}
 use lib.ListN.{length, take}
 use lib.Seq.{take-suc, take-take, length-take-le, getD-take}
 use Rattle.command.specs.Text.{IsNumeral, digit, further}
-use Rattle.command.specs.TextFacts.{numeral-unique, numeral-not-empty, numeral-digits, IsBegun, numeral-begun}
+use Rattle.command.specs.Facts.Text.{numeral-unique, numeral-not-empty, numeral-digits, IsBegun, numeral-begun}
 use Rattle.command.specs.Reads.{Ends, at-end, before-other, IsDigitAt, IsNumberAtStart}
 
 -- no numeral goes past a place where a number ends
@@ -99,7 +99,8 @@ module _ {bytes : List ℕ} {i value d : ℕ} (to : IsReadTo bytes i value) (at 
           ends-no-digit (rw last at (start .ends)) at small
 
 -- digits whose value is too large begin no number
-pub too-large : {bytes : List ℕ} (i : ℕ) {value : ℕ} → 1 ≤ i → i ≤ length bytes → IsNumeral (take i bytes) value → 4_294_967_296 ≤ value → (v n : ℕ) → IsNumberAtStart bytes v n → ⊥
+pub too-large : {bytes : List ℕ} (i : ℕ) {value : ℕ} → 1 ≤ i → i ≤ length bytes → IsNumeral (take i bytes) value → 4_294_967_296 ≤ value
+    → (v n : ℕ) → IsNumberAtStart bytes v n → ⊥
 too-large {bytes = bytes} i {value = value} some within read large v n start = go (decLt i n)
   where
     go : Dec (i < n) → ⊥

@@ -10,8 +10,8 @@ use lib.ListN.{length, take, drop, length-append, take-append-drop}
 use lib.Seq.{length-take-le, take-all, take-at, take-append-le}
 use Rattle.planner.specs.declared.Planner.{Planner}
 use Rattle.command.specs.Commands.{Says}
-use Rattle.command.specs.CommandFacts.{too-long}
-use Rattle.command.specs.PutFacts.{put-length}
+use Rattle.command.specs.Facts.Commands.{too-long}
+use Rattle.command.specs.Facts.Puts.{put-length}
 use Rattle.command.specs.Step.{IsStep}
 use Rattle.command.specs.Runs.{part-of, Reaches}
 use Rattle.command.specs.Runs.Reaches.{none as reached-none, one-more}
@@ -21,7 +21,7 @@ use Rattle.command.specs.declared.lines.Reached.{Reached}
 use Rattle.command.specs.declared.step.Step.{Step}
 use Rattle.console.specs.Transcript.{HasNoEnd, IsAnswer, IsCut, Told, ToldAll}
 use Rattle.console.specs.Transcript.Transcript.{next}
-use Rattle.console.specs.LineEndFacts.{no-end-first, no-end-second, no-end-both, before-the-end, split-line, line-no-end}
+use Rattle.console.specs.Facts.LineEnds.{no-end-first, no-end-second, no-end-both, before-the-end, split-line, line-no-end}
 
 -- two lines of 64 bytes or more say the same: nothing
 both-long : (line other : List ℕ) (c : Command) → 64 ≤ length line → 64 ≤ length other → Says line c → Says other c
@@ -31,7 +31,8 @@ both-long line other (Remove id) long too says = absurd (lt-irrefl 0 (omega (ari
 both-long line other Round long too says = absurd (lt-irrefl 0 (omega (arith, says .short)))
 both-long line other Malformed long too says = too-long other (omega arith)
 
-long-answer : {p after : Planner} {n : ℕ} {line other answer : List ℕ} → 64 ≤ length line → 64 ≤ length other → IsAnswer p n line answer after → IsAnswer p n other answer after
+long-answer : {p after : Planner} {n : ℕ} {line other answer : List ℕ} → 64 ≤ length line → 64 ≤ length other
+    → IsAnswer p n line answer after → IsAnswer p n other answer after
 long-answer {line = line} {other = other} long too is =
     record {
       command = is .command;
@@ -46,11 +47,12 @@ long-enough : (line more : List ℕ) → 64 ≤ length line → 64 ≤ length (t
 long-enough line more long = omega (arith, length-append (take 64 line) more, length-take-le 64 line long)
 
 -- one line more is answered
-pub line-told : {read written : List ℕ} {p : Planner} {n : ℕ} (line more answer : List ℕ) (after : Planner) → HasNoEnd line → IsAnswer p (n + 1) line answer after
-    → Told read written p n (line ++ (10 ∷ more)) → Told read (written ++ answer) after (n + 1) more
+pub line-told : {read written : List ℕ} {p : Planner} {n : ℕ} (line more answer : List ℕ) (after : Planner)
+    → HasNoEnd line → IsAnswer p (n + 1) line answer after → Told read written p n (line ++ (10 ∷ more)) → Told read (written ++ answer) after (n + 1) more
 line-told {read} {written} {p} {n} line more answer after no-end is told = go (told .stands)
   where
-    grown : (whole : List ℕ) → HasNoEnd whole → IsAnswer p (n + 1) whole answer after → told .rest ≡ whole ++ (10 ∷ more) → Told read (written ++ answer) after (n + 1) more
+    grown : (whole : List ℕ) → HasNoEnd whole → IsAnswer p (n + 1) whole answer after → told .rest ≡ whole ++ (10 ∷ more)
+        → Told read (written ++ answer) after (n + 1) more
     grown whole none-there answers rest-is =
         let so-far = told .answered in
         record {
@@ -71,15 +73,18 @@ line-told {read} {written} {p} {n} line more answer after no-end is told = go (t
     go (inl same) = grown line no-end is (sym same)
     go (inr cut) =
         let short = take 64 (cut .line) in
-        let short-no-end : HasNoEnd short = no-end-first short (drop 64 (cut .line)) (subst HasNoEnd (sym (take-append-drop 64 (cut .line))) (cut .no-end)) in
+        let whole-no-end = subst HasNoEnd (sym (take-append-drop 64 (cut .line))) (cut .no-end) in
+        let short-no-end : HasNoEnd short = no-end-first short (drop 64 (cut .line)) whole-no-end in
         let (b, (line-is, more-is)) = before-the-end short (cut .more) line more short-no-end (sym (cut .kept-is)) in
         let b-no-end : HasNoEnd b = no-end-second short b (subst HasNoEnd line-is no-end) in
-        grown (cut .line ++ b) (no-end-both (cut .line) b (cut .no-end) b-no-end)
-        (long-answer (subst (λ (l : List ℕ). 64 ≤ length l) (sym line-is) (long-enough (cut .line) b (cut .long))) (omega (arith, length-append (cut .line) b, cut .long)) is)
+        let long : 64 ≤ length line = subst (λ (l : List ℕ). 64 ≤ length l) (sym line-is) (long-enough (cut .line) b (cut .long)) in
+        let whole-long : 64 ≤ length (cut .line ++ b) = omega (arith, length-append (cut .line) b, cut .long) in
+        grown (cut .line ++ b) (no-end-both (cut .line) b (cut .no-end) b-no-end) (long-answer long whole-long is)
         (cut .rest-is ∙ ap (λ (l : List ℕ). cut .line ++ l) more-is ∙ sym (append-assoc (cut .line) b (10 ∷ more)))
 
 -- bytes are read behind those kept
-pub read-told : {read written : List ℕ} {p : Planner} {n : ℕ} {kept : List ℕ} (bytes : List ℕ) → Told read written p n kept → Told (read ++ bytes) written p n (kept ++ bytes)
+pub read-told : {read written : List ℕ} {p : Planner} {n : ℕ} {kept : List ℕ} (bytes : List ℕ) → Told read written p n kept
+    → Told (read ++ bytes) written p n (kept ++ bytes)
 read-told {kept = kept} bytes told =
     let so-far = told .answered in
     record {
@@ -135,33 +140,46 @@ cut-told {kept = kept} no-end told =
         })
 
 -- what a step does is an answer, put behind what was written
-pub step-answer : {p : Planner} {number : ℕ} {line before after : List ℕ} {at : ℕ} {r : Step} (is : IsStep p number line before after at r) → IsAnswer p number line (is .written .bytes) (r .planner)
-step-answer is =
-    record { command = is .command; says = is .says; answered = is .answered; by-contract = is .by-contract; planner = is .planner; written = is .written .property }
+module _ {p : Planner} {number : ℕ} {line before after : List ℕ} {at : ℕ} {r : Step} (is : IsStep p number line before after at r) where
+  pub step-answer : IsAnswer p number line (is .written .bytes) (r .planner)
+  step-answer =
+      record {
+        command = is .command;
+        says = is .says;
+        answered = is .answered;
+        by-contract = is .by-contract;
+        planner = is .planner;
+        written = is .written .property;
+      }
 
-pub step-written : {p : Planner} {number : ℕ} {line before after : List ℕ} {at : ℕ} {r : Step} (is : IsStep p number line before after at r) → at ≤ length before
-    → take (r .end) after ≡ take at before ++ is .written .bytes
-step-written {before = before} {after} {at} {r} is inside =
-    let front = take at before ++ is .written .bytes in
-    ap (take (r .end)) (is .written .content ∙ sym (append-assoc (take at before) (is .written .bytes) (drop (r .end) before)))
-    ∙ take-at front (drop (r .end) before) (r .end) (length-append (take at before) (is .written .bytes) ∙ omega (arith, length-take-le at before inside, is .written .ends))
+  pub step-written : at ≤ length before → take (r .end) after ≡ take at before ++ is .written .bytes
+  step-written inside =
+      let bytes = is .written .bytes in
+      let front = take at before ++ bytes in
+      let rest = drop (r .end) before in
+      let long : length front ≡ r .end = length-append (take at before) bytes ∙ omega (arith, length-take-le at before inside, is .written .ends) in
+      ap (take (r .end)) (is .written .content ∙ sym (append-assoc (take at before) bytes rest)) ∙ take-at front rest (r .end) long
 
 -- lines that were run, from an empty output on, are told, and the output keeps its length
 pub run-told : {bytes out after : List ℕ} {s t : Reached} → Reaches bytes s out t after → s .end ≡ 0 → t .end ≤ length out → (read written : List ℕ)
     → Told read written (s .planner) (s .number) (drop (s .from) bytes)
     → (length after ≡ length out) × Told read (written ++ take (t .end) after) (t .planner) (t .number) (drop (t .from) bytes)
 run-told {bytes} {out} {s = s} reached-none empty within read written told =
-    (refl, subst (λ (l : List ℕ). Told read l (s .planner) (s .number) (drop (s .from) bytes)) (sym (append-nil written) ∙ ap (λ (k : ℕ). written ++ take k out) (sym empty)) told)
+    let nothing : written ≡ written ++ take (s .end) out = sym (append-nil written) ∙ ap (λ (k : ℕ). written ++ take k out) (sym empty) in
+    (refl, subst (λ (l : List ℕ). Told read l (s .planner) (s .number) (drop (s .from) bytes)) nothing told)
 run-told {bytes} {out} {s = s} (one-more {t} {written = mid} reaches to line-end inside after r is) empty within read written told =
     let earlier : t .end ≤ r .end = omega (arith, is .written .ends) in
     let (same, so-far) = run-told reaches empty (omega (arith, within, earlier)) read written told in
     let line = part-of bytes (t .from) to in
-    let split = subst (λ (l : List ℕ). Told read (written ++ take (t .end) mid) (t .planner) (t .number) l) (split-line bytes (t .from) to line-end inside) so-far in
-    let grown = line-told line (drop (to + 1) bytes) (is .written .bytes) (r .planner) (line-no-end bytes (t .from) to line-end) (step-answer is) split in
-    let place : t .end ≤ length mid = omega (arith, same, within, earlier) in (
+    let rest = drop (to + 1) bytes in
+    let answer = is .written .bytes in
+    let cut-off = split-line bytes (t .from) to line-end inside in
+    let split = subst (Told read (written ++ take (t .end) mid) (t .planner) (t .number)) cut-off so-far in
+    let grown = line-told line rest answer (r .planner) (line-no-end bytes (t .from) to line-end) (step-answer is) split in
+    let place : t .end ≤ length mid = omega (arith, same, within, earlier) in
+    let behind = append-assoc written (take (t .end) mid) answer ∙ ap (λ (l : List ℕ). written ++ l) (sym (step-written is place)) in (
       put-length (is .written) (omega (arith, same, within)) ∙ same,
-      subst (λ (l : List ℕ). Told read l (r .planner) (t .number + 1) (drop (to + 1) bytes))
-          (append-assoc written (take (t .end) mid) (is .written .bytes) ∙ ap (λ (l : List ℕ). written ++ l) (sym (step-written is place))) grown,
+      subst (λ (l : List ℕ). Told read l (r .planner) (t .number + 1) rest) behind grown,
     )
 
 -- what is left without a line end is a last line, or nothing
@@ -180,7 +198,9 @@ none-left {read} {written} {p} {n} told = go (told .stands)
           nothing-left = λ _. refl;
           last-line = λ some. absurd (some (sym same));
         }
-    go (inr cut) = absurd (lt-irrefl 0 (omega (arith, ap length (cut .kept-is), length-append (take 64 (cut .line)) (cut .more), length-take-le 64 (cut .line) (cut .long))))
+    go (inr cut) =
+        let long = length-append (take 64 (cut .line)) (cut .more) in
+        absurd (lt-irrefl 0 (omega (arith, ap length (cut .kept-is), long, length-take-le 64 (cut .line) (cut .long))))
 
 module _ {read written : List ℕ} {p : Planner} {n : ℕ} {kept : List ℕ} (told : Told read written p n kept) (no-end : HasNoEnd kept) (some : kept ≡ [] → ⊥) where
   pub last-told : (answer : List ℕ) (after : Planner) → IsAnswer p (n + 1) kept answer after → ToldAll read (written ++ answer)
@@ -203,7 +223,8 @@ module _ {read written : List ℕ} {p : Planner} {n : ℕ} {kept : List ℕ} (to
       go (inl same) = ended (subst HasNoEnd same no-end) (λ nothing. some (same ∙ nothing)) (subst (λ (l : List ℕ). IsAnswer p (n + 1) l answer after) same is)
       go (inr cut) =
           let more-no-end : HasNoEnd (cut .more) = no-end-second (take 64 (cut .line)) (cut .more) (subst HasNoEnd (cut .kept-is) no-end) in
-          let long : 64 ≤ length (told .rest) = omega (arith, ap length (cut .rest-is), length-append (cut .line) (cut .more), cut .long) in
+          let rest-long : 64 ≤ length (told .rest) = omega (arith, ap length (cut .rest-is), length-append (cut .line) (cut .more), cut .long) in
+          let long = subst (λ (l : List ℕ). 64 ≤ length l) (sym (cut .kept-is)) (long-enough (cut .line) (cut .more) (cut .long)) in
           ended (subst HasNoEnd (sym (cut .rest-is)) (no-end-both (cut .line) (cut .more) (cut .no-end) more-no-end))
           (λ nothing. lt-irrefl 0 (omega (arith, ap length nothing)))
-          (long-answer (subst (λ (l : List ℕ). 64 ≤ length l) (sym (cut .kept-is)) (long-enough (cut .line) (cut .more) (cut .long))) long is)
+          (long-answer long rest-long is)

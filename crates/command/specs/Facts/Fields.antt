@@ -9,8 +9,8 @@ use native.Mathlib.Omega.{arith}
 use lib.ListN.{length, take, drop, getD, length-append, length-drop, take-append-drop}
 use lib.Seq.{take-append-seam, drop-append-seam, drop-cons, drop-drop, getD-append-seam}
 use Rattle.command.specs.Text.{IsNumeral, IsFields, none, more}
-use Rattle.command.specs.TextFacts.{numeral-unique}
-use Rattle.command.specs.NumberFacts.{ends-last}
+use Rattle.command.specs.Facts.Text.{numeral-unique}
+use Rattle.command.specs.Facts.Numbers.{ends-last}
 use Rattle.command.specs.Reads.{Ends, at-end, before-other, IsNumberAtStart, IsReadNumber, IsReadField, Fit}
 use Rattle.command.specs.declared.numbers.Number.{Number}
 use Rattle.command.specs.declared.numbers.Number.the-variants.{Value, Bad}
@@ -50,7 +50,8 @@ ends-before bytes (more {bytes = other} {rest = rest} numeral further) =
     before-other (omega (arith, length-append bytes (44 ∷ (other ++ rest)))) (λ digit. lt-irrefl 0 (omega (arith, comma, digit .0)))
 
 -- the first field's number is the one at the start of the bytes after its comma
-first-at-start : (bytes : List ℕ) {rest ns : List ℕ} {v : ℕ} → IsNumeral bytes v → IsFields rest ns → v < 4_294_967_296 → IsNumberAtStart (bytes ++ rest) v (length bytes)
+first-at-start : (bytes : List ℕ) {rest ns : List ℕ} {v : ℕ} → IsNumeral bytes v → IsFields rest ns → v < 4_294_967_296
+    → IsNumberAtStart (bytes ++ rest) v (length bytes)
 first-at-start bytes {rest = rest} numeral further fits =
     record {
       within = omega (arith, length-append bytes rest);
@@ -60,7 +61,8 @@ first-at-start bytes {rest = rest} numeral further fits =
     }
 
 -- what is read at the start is the first field's number, and what follows it is the rest
-number-first : (bytes : List ℕ) {rest ns : List ℕ} {v w n : ℕ} → IsNumeral bytes w → IsFields rest ns → IsNumberAtStart (bytes ++ rest) v n → (v ≡ w) × (drop n (bytes ++ rest) ≡ rest)
+number-first : (bytes : List ℕ) {rest ns : List ℕ} {v w n : ℕ} → IsNumeral bytes w → IsFields rest ns → IsNumberAtStart (bytes ++ rest) v n
+    → (v ≡ w) × (drop n (bytes ++ rest) ≡ rest)
 number-first bytes {rest = rest} {w = w} {n = n} numeral further start =
     let cut = take-append-seam bytes rest in
     let whole : IsNumeral (take (length bytes) (bytes ++ rest)) w = rw cut numeral in
@@ -90,7 +92,9 @@ module _ (line : List ℕ) (at : ℕ) (inside : at < length line) where
 
     pub field-on : (ns : List ℕ) → IsFields (drop (at + 1 + n) line) ns → IsFields (drop at line) (v ∷ ns)
     field-on ns fields =
-        let there : drop at line ≡ 44 ∷ (take n (drop (at + 1) line) ++ drop (at + 1 + n) line) = rw (at-byte, comma, ← (drop-drop n (at + 1) line), take-append-drop n (drop (at + 1) line)) in
+        let rest = drop (at + 1) line in
+        let there : drop at line ≡ 44 ∷ (take n rest ++ drop (at + 1 + n) line) =
+        rw (at-byte, comma, ← (drop-drop n (at + 1) line), take-append-drop n rest) in
         rw there (more (start .numeral) fields)
 
     pub field-back : (ns : List ℕ) → IsFields (drop at line) ns → IsAfter (drop (at + 1 + n) line) (v ∷ []) ns
@@ -113,7 +117,9 @@ module _ (line : List ℕ) (at : ℕ) (inside : at < length line) where
       go (inr f) =
           let here : drop (at + 1) line ≡ f .numeral-bytes ++ f .rest = tail-eq-of-cons-eq (sym at-byte ∙ f .split) in
           let fits : f .number < 4_294_967_296 = fit (f .number) (rw (f .numbers) mem-cons-self) in
-          bad (head-eq-of-cons-eq (sym at-byte ∙ f .split)) (f .number) (length (f .numeral-bytes)) (rw here (first-at-start (f .numeral-bytes) (f .numeral) (f .further) fits))
+          let comma = head-eq-of-cons-eq (sym at-byte ∙ f .split) in
+          let number = first-at-start (f .numeral-bytes) (f .numeral) (f .further) fits in
+          bad comma (f .number) (length (f .numeral-bytes)) (rw here number)
 
 -- The answer of the number reader holds for the field too.
 pub field-read : (line : List ℕ) (at : ℕ) (r : Number) → getD line at 0 ≡ 44 → IsReadNumber (drop (at + 1) line) r → IsReadField line at r

@@ -6,29 +6,34 @@ use native.Mathlib.Decide.{ℕ-discrete}
 use native.Mathlib.Omega.{arith}
 use Rattle.rules.specs.Streams.{Stream}
 use Rattle.rules.specs.Slots.{passed}
-use Rattle.rules.specs.Lists.{mem-nonempty, no-longer}
-use Rattle.rules.specs.RoundKept.{passed-elim}
-use Rattle.rules.specs.PacketFacts.{advanced, advanced-next}
-use Rattle.demands.specs.Calls.{HeldRound, times-in, times-sent, end-of}
+use Rattle.rules.specs.Facts.Lists.{mem-nonempty, no-longer}
+use Rattle.rules.specs.Facts.RoundKept.{passed-elim}
+use Rattle.rules.specs.Facts.Packets.{advanced, advanced-next}
+use Rattle.demands.specs.CallLists.{HeldRound, times-in, times-sent, end-of}
 
 module _ (id : ℕ) (ids : List ℕ) (differ : List·Nodup ids) where
-  nodup-same : List·Nodup (filter (λ (x : ℕ). ℕ-discrete x id) ids)
+  abbrev same : List ℕ
+  same = filter (λ (x : ℕ). ℕ-discrete x id) ids
+
+  nodup-same : List·Nodup same
   nodup-same = Pairwise·filter (λ (x : ℕ). ℕ-discrete x id) differ
+
+  in-same : (x : ℕ) → List·Mem x same → List·Mem x ids × (x ≡ id)
+  in-same x m = mem-filter (λ (y : ℕ). ℕ-discrete y id) {l = ids} .0 m
 
   -- in a list without repeats an id stands once, or never
   pub stands-once : List·Mem id ids → times-in id ids ≡ 1
   unfolding times-in
   stands-once there =
-      let same = filter (λ (x : ℕ). ℕ-discrete x id) ids in
-      let most = no-longer same (id ∷ []) nodup-same (λ x m. subst (λ (y : ℕ). List·Mem y (id ∷ [])) (sym (mem-filter (λ (y : ℕ). ℕ-discrete y id) {l = ids} .0 m .1)) mem-cons-self) in
+      let most = no-longer same (id ∷ []) nodup-same (λ x m. subst (λ (y : ℕ). List·Mem y (id ∷ [])) (sym (in-same x m .1)) mem-cons-self) in
       let least = mem-nonempty same id (mem-filter (λ (y : ℕ). ℕ-discrete y id) {l = ids} .1 (there, refl)) in
       omega (arith, most, least)
 
   pub stands-never : (List·Mem id ids → ⊥) → times-in id ids ≡ 0
   unfolding times-in
   stands-never absent =
-      let none = no-longer (filter (λ (x : ℕ). ℕ-discrete x id) ids) [] nodup-same
-      (λ x m. let w = mem-filter (λ (y : ℕ). ℕ-discrete y id) {l = ids} .0 m in absurd (absent (subst (λ (y : ℕ). List·Mem y ids) (w .1) (w .0)))) in
+      let none = no-longer same [] nodup-same
+      (λ x m. absurd (absent (subst (λ (y : ℕ). List·Mem y ids) (in-same x m .1) (in-same x m .0)))) in
       omega (arith, none)
 
 -- one more round adds what stands in it

@@ -1,4 +1,3 @@
--- Sets of small numbers.
+-- Sets of small numbers: Bits says what they are, Facts has their laws.
 pub mod Bits
-pub mod BitFacts
-pub mod WordFacts
+pub mod Facts

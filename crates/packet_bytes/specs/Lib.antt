@@ -1,5 +1,4 @@
--- The layout of a packet, that values and bytes determine one another, and what storing bytes one by one leaves.
+-- The layout of a packet; in Facts, that values and bytes determine one another, and what storing bytes one by one leaves.
 pub mod Layout
 pub mod Parts
-pub mod LayoutFacts
-pub mod StoreFacts
+pub mod Facts

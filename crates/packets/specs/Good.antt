@@ -3,17 +3,18 @@ use mathlib.Core.Path.{_≡_}
 use mathlib.Core.List.{List, List·Mem, List·Nodup}
 use Prim.Native.Nat.{ℕ, _≤_}
 use lib.ListN.{length}
+use Rattle.basics.specs.Limits.{last-start, most-slots, largest-id}
 use Rattle.packet_bytes.specs.Layout.{Values, bytes-of}
 
 -- The ids of a good packet: each is 1 to 32,767, and none stands twice. Requests (vi) and (viii) will change this condition and no other.
 pub record IdsGood (ids : List ℕ) : Type 0 where
-  pub range : (id : ℕ) → List·Mem id ids → (1 ≤ id) × (id ≤ 32_767)
+  pub range : (id : ℕ) → List·Mem id ids → (1 ≤ id) × (id ≤ largest-id)
   pub once : List·Nodup ids
 
 -- A good packet: the start is at most 1,000,000,000, B is 1 to 64, n is at most B, and the ids are good.
 pub record IsGood (v : Values) : Type 0 where
-  pub start : v .start ≤ 1_000_000_000
-  pub slots : (1 ≤ v .slots) × (v .slots ≤ 64)
+  pub start : v .start ≤ last-start
+  pub slots : (1 ≤ v .slots) × (v .slots ≤ most-slots)
   pub count : length (v .ids) ≤ v .slots
   pub ids : IdsGood (v .ids)
 

@@ -1,10 +1,7 @@
--- Which packets are good, what reading and writing one answer and leave, and how the two fit together.
+-- Which packets are good, and what reading and writing one answer and leave. Met is what inner functions promise one another; in Facts, how reading
+-- and writing fit together, and worked examples.
 pub mod Good
 pub mod Reading
 pub mod Writing
-pub mod Exchange
-pub mod Examples
-pub mod GoodFacts
-pub mod MetFacts
-pub mod ReadingFacts
-pub mod WritingFacts
+pub mod Met
+pub mod Facts

@@ -8,7 +8,7 @@ use lib.ListN.{length, getD, drop}
 use Rattle.basics.specs.Refusals.{Refusal, answer-of}
 use Rattle.packet_bytes.specs.Layout.{Values, bytes-of}
 use Rattle.packets.specs.Good.{IsGood, IsGoodPacket}
-use Rattle.packets.specs.GoodFacts.{decide-packet}
+use Rattle.packets.specs.Facts.Good.{decide-packet}
 use Rattle.packets.specs.declared.Header.{Header}
 
 -- The length is right: not under 6, so that there is a byte 5, and 6 + 2×n, n being that byte.

@@ -8,7 +8,7 @@ use lib.ListN.{length, drop}
 use Rattle.basics.specs.Refusals.{Refusal, answer-of}
 use Rattle.packet_bytes.specs.Layout.{Values, bytes-of}
 use Rattle.packets.specs.Good.{IsGood}
-use Rattle.packets.specs.GoodFacts.{decide-good}
+use Rattle.packets.specs.Facts.Good.{decide-good}
 
 -- 27: a value is not good.
 abbrev pub bad-values : Values → Refusal

@@ -4,7 +4,7 @@ ghost use Prim.Native.Nat.{_<_};
 ghost use lib.ListN.{length, getD, take};
 ghost use Rattle.basics.specs.Decides.{Decides};
 ghost use Rattle.packets.specs.Good.{IdsGood};
-ghost use Rattle.packets.specs.MetFacts.{HasMet};
+ghost use Rattle.packets.specs.Met.{HasMet};
 
 const LARGEST_ID: u16 = 32767;
 

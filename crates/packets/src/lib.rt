@@ -6,6 +6,8 @@ ghost use Rattle.basics.specs.Refusals.{answer-of};
 ghost use Rattle.packets.specs.Good.{IsGood};
 ghost use Rattle.packets.specs.Reading.{read-refusals, IsRead, ids-part};
 ghost use Rattle.packets.specs.Writing.{IsWritten};
+use basics::LAST_START;
+use basics::MOST_SLOTS;
 use ids::ids_are_good;
 use packet_bytes::ids_of_pairs;
 use packet_bytes::start_of_header;
@@ -14,10 +16,6 @@ use packet_bytes::write_header_in_room;
 use packet_bytes::write_ids_in_room;
 
 mod ids;
-
-const LAST_START: u32 = 1000000000;
-
-const MOST_SLOTS: u32 = 64;
 
 // What a reader gives: the start, B and n; or the number of a refusal and zeros.
 #[repr(C)]

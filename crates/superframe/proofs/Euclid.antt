@@ -1,8 +1,10 @@
 -- Euclid's step, and the least common multiple of two numbers by their greatest common divisor.
 use mathlib.Core.Path.{_≡_, subst}
 use Prim.Native.Nat.{ℕ, _+_, _*_, _/_, _%_, _≤_, _∣_}
-use native.Mathlib.Nat.{dvd-refl, dvd-zero, dvd-mul-left, dvd-mul-right, dvd-mul-right-of-dvd, dvd-add-iff-right, dvd-mod-iff, mul-dvd-mul-left, dvd-of-mul-dvd-mul-right, mul-dvd-mul-right, div-mul-cancel, div-le-self, pos-of-dvd-of-pos, mul-pos, mul-le-mul-right, mul-comm, mul-assoc, mul-right-comm, mul-add, div-add-mod}
-use Rattle.superframe.specs.Inner.{IsGcd, IsLcmOfTwo}
+use native.Mathlib.Nat.{dvd-refl, dvd-zero, dvd-mul-left, dvd-mul-right, dvd-mul-right-of-dvd, dvd-add-iff-right, dvd-mod-iff}
+use native.Mathlib.Nat.{mul-dvd-mul-left, mul-dvd-mul-right, dvd-of-mul-dvd-mul-right, pos-of-dvd-of-pos, div-mul-cancel, div-le-self, div-add-mod}
+use native.Mathlib.Nat.{mul-pos, mul-le-mul-right, mul-comm, mul-assoc, mul-right-comm, mul-add}
+use Rattle.superframe.specs.Multiples.{IsGcd, IsLcmOfTwo}
 
 -- the recursion ends: what divides a and 0 best is a
 pub gcd-zero : (a : ℕ) → IsGcd a 0 a

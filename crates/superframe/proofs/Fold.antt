@@ -6,7 +6,7 @@ use native.Mathlib.Nat.{∣-prop, dvd-trans, one-dvd, le-of-dvd, le-trans, mul-l
 use native.Mathlib.Omega.{arith}
 use lib.ListN.{length, take, getD}
 use Rattle.superframe.specs.Periods.{InRange}
-use Rattle.superframe.specs.Inner.{IsLcmOfTwo, WithinLimit, IsLcmOrAbove}
+use Rattle.superframe.specs.Multiples.{IsLcmOfTwo, WithinLimit, IsLcmOrAbove}
 use Rattle.superframe.proofs.Prefix.{take-next, all-snoc, mem-last, mem-take}
 
 -- m is a multiple of every number of the list, and divides every such multiple

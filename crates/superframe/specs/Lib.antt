@@ -1,10 +1,8 @@
--- What the contracts of the crate cite. A reader has to believe Least, Periods and Superframe; the rest is proved of them.
+-- What the contracts of the crate cite. A reader has to believe Least, Periods and Superframe; Multiples is what inner functions promise one
+-- another, Decide has the deciders, and the rest is proved.
 pub mod Least
-pub mod LeastFacts
 pub mod Periods
-pub mod PeriodFacts
+pub mod Decide
 pub mod Superframe
-pub mod SuperframeFacts
-pub mod Inner
-pub mod PeriodTests
-pub mod SuperframeTests
+pub mod Multiples
+pub mod Facts

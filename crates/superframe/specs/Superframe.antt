@@ -3,7 +3,7 @@ use mathlib.Core.List.{List}
 use Prim.Native.Nat.{ℕ, _+_, _*_, _≤_}
 use native.Mathlib.Decide.{decLe}
 use Rattle.superframe.specs.Periods.{AllInRange}
-use Rattle.superframe.specs.PeriodFacts.{decide-in-range, lcm-exists}
+use Rattle.superframe.specs.Decide.{decide-in-range, lcm-exists}
 
 -- An answer, 0 or the number of a refusal, and a value.
 pub record Answered : Type 0 where

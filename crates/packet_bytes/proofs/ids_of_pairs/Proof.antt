@@ -3,7 +3,7 @@ use mathlib.Core.Path.{refl}
 use Prim.Native.Nat.{_-_, _≤_}
 use native.Mathlib.Omega.{arith}
 use Rattle.packet_bytes.specs.Parts.{ids-in}
-use Rattle.packet_bytes.specs.StoreFacts.{AreTaken, one-more-pair, all-pairs}
+use Rattle.packet_bytes.specs.Facts.Stores.{AreTaken, one-more-pair, all-pairs}
 use Rattle.packet_bytes.proofs.ids_of_pairs.Statement.{statement}
 use Rattle.packet_bytes.proofs.ids_of_pairs.Tie as tie
 

@@ -2,7 +2,7 @@
 use borrow.Author.Needs.{needs}
 use native.Mathlib.Omega.{arith}
 use lib.ListN.{length-set}
-use Rattle.packet_bytes.specs.StoreFacts.{six-stored}
+use Rattle.packet_bytes.specs.Facts.Stores.{six-stored}
 use Rattle.packet_bytes.proofs.write_header_in_room.Statement.{statement}
 use Rattle.packet_bytes.proofs.write_header_in_room.Tie as tie
 

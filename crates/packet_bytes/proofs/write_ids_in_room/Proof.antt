@@ -2,7 +2,7 @@
 use Prim.Native.Nat.{_-_}
 use native.Mathlib.Omega.{arith}
 use lib.ListN.{length, length-set}
-use Rattle.packet_bytes.specs.StoreFacts.{AreStored, none-stored, length-stored, one-more-stored, all-stored}
+use Rattle.packet_bytes.specs.Facts.Stores.{AreStored, none-stored, length-stored, one-more-stored, all-stored}
 use Rattle.packet_bytes.proofs.write_ids_in_room.Statement.{statement}
 use Rattle.packet_bytes.proofs.write_ids_in_room.Tie as tie
 
@@ -28,7 +28,9 @@ mul-part : tie.Need-mul-part Inv-loop μ-loop
 mul-part c = omega (arith, c .before .before .before .pre)
 
 slice-write-part : tie.Need-slice-write-part Inv-loop μ-loop
-slice-write-part c = omega (arith, c .before .before .before .pre, length-stored _ _ (c .before .before .before .pre) _ _ (c .before .before .loop .inv))
+slice-write-part c =
+    let room = c .before .before .before .pre in
+    omega (arith, room, length-stored _ _ room _ _ (c .before .before .loop .inv))
 
 cast-part-2 : tie.Need-cast-part-2 Inv-loop μ-loop
 cast-part-2 c = omega arith
@@ -40,7 +42,9 @@ add-part : tie.Need-add-part Inv-loop μ-loop
 add-part c = omega (arith, c .before .before .before .pre)
 
 slice-write-part-2 : tie.Need-slice-write-part-2 Inv-loop μ-loop
-slice-write-part-2 c = simp length-set (omega (arith, c .before .before .before .pre, length-stored _ _ (c .before .before .before .pre) _ _ (c .before .before .loop .inv)))
+slice-write-part-2 c =
+    let room = c .before .before .before .pre in
+    simp length-set (omega (arith, room, length-stored _ _ room _ _ (c .before .before .loop .inv)))
 
 add-k : tie.Need-add-k Inv-loop μ-loop
 add-k c = omega arith

@@ -1,7 +1,7 @@
 -- `packets::are_good` meets its contract: each test is one of the conditions, and the ids' own is decided last.
 use native.Mathlib.Nat.{lt-irrefl, lt-of-lt-of-le}
 use borrow.Author.Needs.{needs}
-use Rattle.basics.specs.Decides.{decides-no, same-as}
+use Rattle.basics.specs.Facts.Decides.{decides-no, same-as}
 use Rattle.packets.proofs.are_good.Statement.{statement}
 use Rattle.packets.proofs.are_good.Tie as tie
 

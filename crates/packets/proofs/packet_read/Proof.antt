@@ -6,7 +6,7 @@ use borrow.Author.Needs.{needs}
 use lib.ListN.{length}
 use Rattle.basics.specs.Refusals.{answer-of}
 use Rattle.packets.specs.Reading.{read-refusals}
-use Rattle.packets.specs.ReadingFacts.{read-has-header, read-refused, read-given}
+use Rattle.packets.specs.Facts.Reading.{read-has-header, read-refused, read-given}
 use Rattle.packets.proofs.packet_read.Statement.{statement}
 use Rattle.packets.proofs.packet_read.Tie as tie
 

@@ -1,9 +1,9 @@
 -- `packets::packet_write` meets its contract: refused, nothing was stored; else the header and then the ids are.
 use native.Mathlib.Omega.{arith}
 use borrow.Author.Needs.{needs}
-use Rattle.basics.specs.Decides.{failed, passed}
+use Rattle.basics.specs.Facts.Decides.{failed, passed}
 use Rattle.packet_bytes.specs.Layout.{Values}
-use Rattle.packets.specs.WritingFacts.{refuses-27, refuses-28, writes, header-and-ids}
+use Rattle.packets.specs.Facts.Writing.{refuses-27, refuses-28, writes, header-and-ids}
 use Rattle.packets.proofs.packet_write.Statement.{statement}
 use Rattle.packets.proofs.packet_write.Tie as tie
 
@@ -23,10 +23,14 @@ returns-2 : tie.Need-returns-2
 returns-2 c = refuses-28 _ _ (passed (c .before .before .are-good .ensures) (c .before .if1 .left)) (c .if2 .taken)
 
 cast-write-header-in-room : tie.Need-cast-write-header-in-room
-cast-write-header-in-room c = omega (arith, passed (c .before .before .before .are-good .ensures) (c .before .before .if1 .left) .slots)
+cast-write-header-in-room c =
+    let good = passed (c .before .before .before .are-good .ensures) (c .before .before .if1 .left) in
+    omega (arith, good .slots)
 
 cast-write-header-in-room-2 : tie.Need-cast-write-header-in-room-2
-cast-write-header-in-room-2 c = let good = passed (c .before .before .before .are-good .ensures) (c .before .before .if1 .left) in omega (arith, good .slots, good .count)
+cast-write-header-in-room-2 c =
+    let good = passed (c .before .before .before .are-good .ensures) (c .before .before .if1 .left) in
+    omega (arith, good .slots, good .count)
 
 write-header-in-room-requires : tie.Need-write-header-in-room-requires
 write-header-in-room-requires c κs = search needs
@@ -53,8 +57,10 @@ returns-3 c =
     let entry = room .before .before .before .before .before in
     let before = entry .args .packet .now in
     let v : Values = record { start = entry .args .start; slots = entry .args .slots; ids = entry .args .ids .now } in
-    writes v before _ (passed (room .before .before .are-good .ensures) (room .before .if1 .left)) (room .if2 .left)
-    (header-and-ids v before _ _ (room .if2 .left) (header .write-header-in-room .ensures) (c .before .before .write-ids-in-room .ensures))
+    let good = passed (room .before .before .are-good .ensures) (room .before .if1 .left) in
+    let long = room .if2 .left in
+    writes v before _ good long
+    (header-and-ids v before _ _ long (header .write-header-in-room .ensures) (c .before .before .write-ids-in-room .ensures))
 
 pub packet-write-spec : {M : Type 1} → statement M
 packet-write-spec =

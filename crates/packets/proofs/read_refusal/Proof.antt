@@ -4,11 +4,12 @@ use mathlib.Core.List.{List}
 use Prim.Native.Nat.{ℕ, _+_, _*_}
 use native.Mathlib.Omega.{arith}
 use borrow.Author.Needs.{needs}
-use Rattle.basics.specs.Decides.{Decides, failed, passed, same-as}
+use Rattle.basics.specs.Decides.{Decides}
+use Rattle.basics.specs.Facts.Decides.{failed, passed, same-as}
 use Rattle.packet_bytes.specs.Parts.{values-in}
 use Rattle.packets.specs.Good.{IsGood}
 use Rattle.packets.specs.Reading.{HasLength}
-use Rattle.packets.specs.ReadingFacts.{as-many-ids, values-read, answers-26, answers-27, answers-0}
+use Rattle.packets.specs.Facts.Reading.{as-many-ids, values-read, answers-26, answers-27, answers-0}
 use Rattle.packets.proofs.read_refusal.Statement.{statement}
 use Rattle.packets.proofs.read_refusal.Tie as tie
 
@@ -31,7 +32,10 @@ add-if2 : tie.Need-add-if2
 add-if2 c = search needs
 
 returns-2 : tie.Need-returns-2
-returns-2 c = answers-26 (c .before .before .before .before .before .args .packet .now) (λ long. c .if2 .taken (long .1 ∙ ap (λ (n : ℕ). 6 + 2 * n) (sym (c .before .wide .ensures .0))))
+returns-2 c =
+    let packet = c .before .before .before .before .before .args .packet .now in
+    let n-is = sym (c .before .wide .ensures .0) in
+    answers-26 packet (λ long. c .if2 .taken (long .1 ∙ ap (λ (n : ℕ). 6 + 2 * n) n-is))
 
 sub-ids-of-pairs : tie.Need-sub-ids-of-pairs
 sub-ids-of-pairs c = search needs
@@ -61,7 +65,8 @@ slice-aggregate-are-good : tie.Need-slice-aggregate-are-good
 slice-aggregate-are-good c =
     let pairs = c .before .before .before .before in
     let measured = pairs .before .before in
-    as-many-ids (measured .before .before .before .before .before .args .packet .now) (measured .before .wide .result) _ (measured .if2 .left) (pairs .ids-of-pairs .ensures)
+    let packet = measured .before .before .before .before .before .args .packet .now in
+    as-many-ids packet (measured .before .wide .result) _ (measured .if2 .left) (pairs .ids-of-pairs .ensures)
 
 are-good-requires : tie.Need-are-good-requires
 are-good-requires c κs = search needs

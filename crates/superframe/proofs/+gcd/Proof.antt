@@ -28,7 +28,10 @@ gcd-rem-gcd : (t : ℕ) → gcd-lts.Need-rem-gcd (gcd-below t, gcd.Post) (gcd-at
 gcd-rem-gcd t c = positive (c .before .args .b) (c .if1 .left)
 
 gcd-gcd-requires : (t : ℕ) → gcd-lts.Need-gcd-requires (gcd-below t, gcd.Post) (gcd-at t) gcd.Post
-gcd-gcd-requires t c κs = (subst (λ (n : ℕ). c .before .args .a % c .before .args .b < n) (c .before .pre .0) (mod-lt (c .before .args .a) (positive (c .before .args .b) (c .if1 .left))), tt)
+gcd-gcd-requires t c κs =
+    let a = c .before .args .a in
+    let b = c .before .args .b in
+    (subst (λ (n : ℕ). a % b < n) (c .before .pre .0) (mod-lt a (positive b (c .if1 .left))), tt)
 
 gcd-returns : (t : ℕ) → gcd-lts.Need-returns (gcd-below t, gcd.Post) (gcd-at t) gcd.Post
 gcd-returns t c = rw (c .if1 .taken) (gcd-zero (c .before .args .a))

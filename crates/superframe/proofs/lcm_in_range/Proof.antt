@@ -2,8 +2,10 @@
 use Prim.Native.Nat.{_≤_, _-_}
 use native.Mathlib.Nat.{lt-irrefl, lt-of-lt-of-le}
 use native.Mathlib.Omega.{arith}
-use lib.ListN.{length, take}
+use lib.ListN.{length, take, getD}
 use lib.Seq.{take-all}
+use Rattle.superframe.specs.Periods.{InRange}
+use Rattle.superframe.specs.Multiples.{WithinLimit}
 use Rattle.superframe.proofs.Prefix.{mem-getD}
 use Rattle.superframe.proofs.Fold.{Folded, folded-none, folded-next, folded-done}
 use Rattle.superframe.proofs.lcm_in_range.Statement.{statement}
@@ -18,8 +20,20 @@ abbrev μ-loop : tie.MeasureT-loop
 loop-holds : tie.Need-loop-holds Inv-loop μ-loop
 loop-holds c = (omega arith, folded-none)
 
+-- past the test of the limit m is within it, and the period at the place is in range
+past-test : (c : tie.Else1 Inv-loop μ-loop)
+    → WithinLimit (c .before .before .loop .m) × InRange (getD (c .before .before .before .before .args .periods .now) (c .before .before .loop .at) 0)
+past-test c =
+    let start = c .before .before .before .before in
+    let loop = c .before .before .loop in
+    let inside = c .before .loop-test .taken in
+    ((loop .inv .1 .positive, c .if1 .left), start .pre _ (mem-getD (start .args .periods .now) (loop .at) inside))
+
 returns : tie.Need-returns Inv-loop μ-loop
-returns c = folded-done (c .before .before .before .before .args .periods .now) (c .before .before .loop .at) (c .before .before .loop .m) (c .before .before .loop .inv .1) (λ low. absurd (lt-irrefl 5040 (lt-of-lt-of-le (c .if1 .taken) low)))
+returns c =
+    let periods = c .before .before .before .before .args .periods .now in
+    let loop = c .before .before .loop in
+    folded-done periods (loop .at) (loop .m) (loop .inv .1) (λ low. absurd (lt-irrefl 5040 (lt-of-lt-of-le (c .if1 .taken) low)))
 
 shared-slice-read-lcm-within-limit : tie.Need-shared-slice-read-lcm-within-limit Inv-loop μ-loop
 shared-slice-read-lcm-within-limit c = omega arith
@@ -28,7 +42,7 @@ cast-lcm-within-limit : tie.Need-cast-lcm-within-limit Inv-loop μ-loop
 cast-lcm-within-limit c = omega (arith, c .shared-slice-known2 .given (c .before .before .before .loop .at))
 
 lcm-within-limit-requires : tie.Need-lcm-within-limit-requires Inv-loop μ-loop
-lcm-within-limit-requires c κs = ((c .before .before .before .loop .inv .1 .positive, c .before .if1 .left), c .before .before .before .before .before .pre _ (mem-getD (c .before .before .before .before .before .args .periods .now) (c .before .before .before .loop .at) (c .before .before .loop-test .taken)))
+lcm-within-limit-requires c κs = past-test (c .before)
 
 add-at : tie.Need-add-at Inv-loop μ-loop
 add-at c = omega arith
@@ -37,14 +51,19 @@ loop-less : tie.Need-loop-less Inv-loop μ-loop
 loop-less c = omega arith
 
 loop-again : tie.Need-loop-again Inv-loop μ-loop
-loop-again c = (
-  omega arith,
-  folded-next (c .before .before .before .before .before .before .args .periods .now) (c .before .before .before .before .loop .at) (c .before .before .before .before .loop .m) (c .lcm-within-limit .result) (c .before .before .before .loop-test .taken)
-      (c .before .before .before .before .loop .inv .1 .positive, c .before .before .if1 .left) (c .before .before .before .before .before .before .pre _ (mem-getD (c .before .before .before .before .before .before .args .periods .now) (c .before .before .before .before .loop .at) (c .before .before .before .loop-test .taken))) (c .before .before .before .before .loop .inv .1) (c .lcm-within-limit .ensures),
-)
+loop-again c =
+    let periods = c .before .before .before .before .before .before .args .periods .now in
+    let loop = c .before .before .before .before .loop in
+    let inside = c .before .before .before .loop-test .taken in
+    let (low, range) = past-test (c .before .before) in
+    let lcm = c .lcm-within-limit in
+    (omega arith, folded-next periods (loop .at) (loop .m) (lcm .result) inside low range (loop .inv .1) (lcm .ensures))
 
 returns-2 : tie.Need-returns-2 Inv-loop μ-loop
-returns-2 c = folded-done (c .before .before .before .args .periods .now) (c .before .loop .at) (c .before .loop .m) (c .before .loop .inv .1) (λ _. take-all (c .before .loop .at) (c .before .before .before .args .periods .now) (c .loop-test .left))
+returns-2 c =
+    let periods = c .before .before .before .args .periods .now in
+    let loop = c .before .loop in
+    folded-done periods (loop .at) (loop .m) (loop .inv .1) (λ _. take-all (loop .at) periods (c .loop-test .left))
 
 pub lcm-in-range-spec : {M : Type 1} → statement M
 lcm-in-range-spec =

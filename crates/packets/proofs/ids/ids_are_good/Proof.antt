@@ -5,10 +5,11 @@ use native.Mathlib.Nat.{lt-irrefl, lt-of-lt-of-le}
 use native.Mathlib.Omega.{arith}
 use lib.ListN.{length, take}
 use lib.Seq.{take-all}
-use Rattle.basics.specs.Decides.{decides-yes, decides-no}
-use Rattle.bits.specs.WordFacts.{zeros}
+use Rattle.basics.specs.Facts.Decides.{decides-yes, decides-no}
+use Rattle.bits.specs.Facts.Words.{zeros}
 use Rattle.packets.specs.Good.{IdsGood}
-use Rattle.packets.specs.MetFacts.{IsMet, none-met, one-more-met, good-at, good-is-new}
+use Rattle.packets.specs.Facts.Met.{none-met, one-more-met, good-at, good-is-new}
+use Rattle.packets.specs.Met.{IsMet}
 use Rattle.packets.proofs.ids.ids_are_good.Statement.{statement}
 use Rattle.packets.proofs.ids.ids_are_good.Tie as tie
 
@@ -35,10 +36,15 @@ returns-2 : tie.Need-returns-2 Inv-loop μ-loop
 returns-2 c = decides-no (λ good. lt-irrefl _ (lt-of-lt-of-le (c .if2 .taken) (good-at _ _ good (c .before .before .before .loop-test .taken) .1)))
 
 is-met-requires : tie.Need-is-met-requires Inv-loop μ-loop
-is-met-requires c κs = (c .before .before .before .before .loop-test .taken, c .before .before .before .before .before .loop .inv .1 .all)
+is-met-requires c κs =
+    let turn = c .before .before .before .before in
+    (turn .loop-test .taken, turn .before .loop .inv .1 .all)
 
 returns-3 : tie.Need-returns-3 Inv-loop μ-loop
-returns-3 c = decides-no (λ good. good-is-new _ _ good (c .before .before .before .before .before .before .loop-test .taken) (c .before .is-met .ensures .if-true (c .if3 .taken)))
+returns-3 c =
+    let inside = c .before .before .before .before .before .before .loop-test .taken in
+    let met = c .before .is-met .ensures .if-true (c .if3 .taken) in
+    decides-no (λ good. good-is-new _ _ good inside met)
 
 put-below-1024-requires : tie.Need-put-below-1024-requires Inv-loop μ-loop
 put-below-1024-requires c κs = (omega arith, c .before .before .before .before .before .before .before .before .loop .inv .1 .size)
@@ -54,10 +60,12 @@ loop-again c =
     let seen = c .before .before .before in
     let low = seen .before .before .before in
     let turn = low .before .before in
-    let loop = turn .before .loop in (
+    let loop = turn .before .loop in
+    let ids = turn .before .before .before .args .ids .now in
+    let high = seen .before .before in
+    let new = seen .is-met .ensures .if-false (c .before .before .if3 .left) in (
       omega arith,
-      one-more-met (turn .before .before .before .args .ids .now) (loop .i) (turn .loop-test .taken) (loop .inv .1) (low .if1 .left, seen .before .before .if2 .left)
-          (seen .is-met .ensures .if-false (c .before .before .if3 .left)) (c .put-below-1024 .ensures),
+      one-more-met ids (loop .i) (turn .loop-test .taken) (loop .inv .1) (low .if1 .left, high .if2 .left) new (c .put-below-1024 .ensures),
     )
 
 returns-4 : tie.Need-returns-4 Inv-loop μ-loop

@@ -1,6 +1,6 @@
 -- `packets::ids::is_met` meets its contract: an id that was met has its remainder in the set.
 use borrow.Author.Needs.{needs}
-use Rattle.basics.specs.Decides.{decides-no, failed}
+use Rattle.basics.specs.Facts.Decides.{decides-no, failed}
 use Rattle.packets.proofs.ids.is_met.Statement.{statement}
 use Rattle.packets.proofs.ids.is_met.Tie as tie
 

@@ -4,8 +4,9 @@ use mathlib.Core.List.{List·Mem, not-mem-nil}
 use Prim.Native.Nat.{_≤_, _<_, _-_}
 use native.Mathlib.Omega.{arith}
 use lib.ListN.{length, take}
-use Rattle.basics.specs.Decides.{Decides, decides-no}
-use Rattle.packets.specs.MetFacts.{found-at, passed-over, all-looked-at}
+use Rattle.basics.specs.Decides.{Decides}
+use Rattle.basics.specs.Facts.Decides.{decides-no}
+use Rattle.packets.specs.Facts.Met.{found-at, passed-over, all-looked-at}
 use Rattle.packets.proofs.ids.stands_before.Statement.{statement}
 use Rattle.packets.proofs.ids.stands_before.Tie as tie
 
@@ -41,10 +42,16 @@ loop-again c =
     let ids = c .before .before .before .before .before .args .ids .now in
     let j = c .before .before .before .loop .j in
     let inside : j < length ids = omega (arith, c .before .before .before .before .before .pre) in
-    (omega arith, ⊎-elim (λ w. found-at ids j _ inside (w .0 .taken) (w .1)) (λ w. passed-over ids j _ inside (c .before .before .before .loop .inv .1) (w .0 .left) (w .1)) (c .if1 .came))
+    let so-far = c .before .before .before .loop .inv .1 in (
+      omega arith,
+      ⊎-elim (λ w. found-at ids j _ inside (w .0 .taken) (w .1)) (λ w. passed-over ids j _ inside so-far (w .0 .left) (w .1)) (c .if1 .came),
+    )
 
 returns : tie.Need-returns Inv-loop μ-loop
-returns c = all-looked-at (c .before .before .before .args .ids .now) (c .before .before .before .args .i) (c .before .loop .j) _ (omega arith) (c .before .loop .inv .1)
+returns c =
+    let args = c .before .before .before .args in
+    let loop = c .before .loop in
+    all-looked-at (args .ids .now) (args .i) (loop .j) _ (omega arith) (loop .inv .1)
 
 pub stands-before-spec : {M : Type 1} → statement M
 stands-before-spec =

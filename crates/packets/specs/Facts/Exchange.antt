@@ -11,12 +11,12 @@ use Rattle.basics.specs.Refusals.{answer-of}
 use Rattle.packet_bytes.specs.Layout.{Values, id-bytes, bytes-of}
 use Rattle.packets.specs.Good.{IsGood, IsGoodPacket}
 use Rattle.packet_bytes.specs.Parts.{ids-in, values-in}
-use Rattle.packet_bytes.specs.LayoutFacts.{ids-kept, same-bytes-same-values, length-bytes, AreBytes, bytes-kept}
+use Rattle.packet_bytes.specs.Facts.Layout.{ids-kept, same-bytes-same-values, length-bytes, AreBytes, bytes-kept}
 use Rattle.packets.specs.Reading.{HasLength, read-refusals, header-of, IsRead, ids-part}
-use Rattle.packets.specs.GoodFacts.{values-are-in}
-use Rattle.packets.specs.ReadingFacts.{answers-27, good-is-read, read-is-good, whole-part}
+use Rattle.packets.specs.Facts.Good.{values-are-in}
+use Rattle.packets.specs.Facts.Reading.{answers-27, good-is-read, read-is-good, whole-part}
 use Rattle.packets.specs.Writing.{write-refusals, IsWritten}
-use Rattle.packets.specs.WritingFacts.{written-is-good, good-is-written}
+use Rattle.packets.specs.Facts.Writing.{written-is-good, good-is-written}
 use Rattle.packets.specs.declared.Header.{Header}
 
 -- A read answers 0 exactly for the bytes of a good packet.
@@ -46,9 +46,11 @@ read-gives v good r is =
 pub read-of-written : (v : Values) (before after : List ℕ) → IsWritten v before after 0 → (r : Header) → IsRead (take (length (bytes-of v)) after) r
     → (r ≡ header-of v) × (ids-part (take (length (bytes-of v)) after) ≡ id-bytes (v .ids))
 read-of-written v before after wrote r is =
-    let front : take (length (bytes-of v)) after ≡ bytes-of v
-    = ap (take (length (bytes-of v))) (wrote .written (sym (wrote .answers))) ∙ take-at (bytes-of v) (drop (length (bytes-of v)) before) (length (bytes-of v)) refl in
-    subst⁻¹ (λ (p : List ℕ). IsRead p r → (r ≡ header-of v) × (ids-part p ≡ id-bytes (v .ids))) front (read-gives v (written-is-good v before (sym (wrote .answers))) r) is
+    let zero = sym (wrote .answers) in
+    let many = length (bytes-of v) in
+    let front : take many after ≡ bytes-of v = ap (take many) (wrote .written zero) ∙ take-at (bytes-of v) (drop many before) many refl in
+    let gives = read-gives v (written-is-good v before zero) r in
+    subst⁻¹ (λ (p : List ℕ). IsRead p r → (r ≡ header-of v) × (ids-part p ≡ id-bytes (v .ids))) front gives is
 
 -- a read whose answer is 0 was not refused
 not-refused : (p : List ℕ) (r : Header) → IsRead p r → r .answer ≡ 0 → answer-of (read-refusals p) ≡ 0
@@ -79,7 +81,8 @@ pub written-of-read : (p : List ℕ) (r : Header) → IsRead p r → r .answer �
 written-of-read p r is zero ids part before after answer room wrote =
     let v : Values = record { start = r .start; slots = r .slots; ids = ids } in
     let values = read-values p r is zero ids part in
-    let none : answer-of (write-refusals v before) ≡ 0 = good-is-written v before (values .1) (subst (λ (l : List ℕ). length l ≤ length before) (values .0) room) in
+    let room-for-v : length (bytes-of v) ≤ length before = subst (λ (l : List ℕ). length l ≤ length before) (values .0) room in
+    let none : answer-of (write-refusals v before) ≡ 0 = good-is-written v before (values .1) room-for-v in
     (wrote .answers ∙ none, subst⁻¹ (λ (l : List ℕ). after ≡ l ++ drop (length l) before) (values .0) (wrote .written none))
 
 -- No two good packets with the same values differ: the same start, B and n read, and the same bytes of ids.

@@ -11,11 +11,11 @@ use Rattle.basics.specs.Refusals.{answer-of}
 use Rattle.packet_bytes.specs.Layout.{Values, id-bytes, bytes-of}
 use Rattle.packets.specs.Good.{IsGood}
 use Rattle.packet_bytes.specs.Parts.{ids-in, values-in}
-use Rattle.packets.specs.MetFacts.{none-good, one-more-good}
+use Rattle.packets.specs.Facts.Met.{none-good, one-more-good}
 use Rattle.packets.specs.Reading.{HasLength, read-refusals}
-use Rattle.packets.specs.ReadingFacts.{answers-26, answers-27, good-is-read}
+use Rattle.packets.specs.Facts.Reading.{answers-26, answers-27, good-is-read}
 use Rattle.packets.specs.Writing.{write-refusals}
-use Rattle.packets.specs.WritingFacts.{refuses-27, refuses-28}
+use Rattle.packets.specs.Facts.Writing.{refuses-27, refuses-28}
 
 abbrev carries : ℕ → ℕ → List ℕ → Values
 carries start slots ids = record { start = start; slots = slots; ids = ids }

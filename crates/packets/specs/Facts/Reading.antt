@@ -8,12 +8,13 @@ use native.Mathlib.Nat.{lt-irrefl}
 use native.Mathlib.Omega.{arith}
 use lib.ListN.{length, getD, take, drop, length-drop}
 use lib.Seq.{take-all}
-use Rattle.basics.specs.Refusals.{answer-of, answer-first, answer-later, answer-zero}
+use Rattle.basics.specs.Refusals.{answer-of}
+use Rattle.basics.specs.Facts.Refusals.{answer-first, answer-later, answer-zero}
 use Rattle.packet_bytes.specs.Layout.{Values}
 use Rattle.packets.specs.Good.{IsGood, IsGoodPacket}
 use Rattle.packet_bytes.specs.Parts.{start-in, ids-in, values-in}
-use Rattle.packet_bytes.specs.LayoutFacts.{length-ids-in, values-kept, AreBytes, bytes-kept, length-bytes}
-use Rattle.packets.specs.GoodFacts.{good-in, decide-packet}
+use Rattle.packet_bytes.specs.Facts.Layout.{length-ids-in, values-kept, AreBytes, bytes-kept, length-bytes}
+use Rattle.packets.specs.Facts.Good.{good-in, decide-packet}
 use Rattle.packets.specs.Reading.{HasLength, wrong-length, bad-value, read-refusals, refused-read, IsRead, ids-part}
 
 -- the whole rest of a list, as a part
@@ -56,7 +57,9 @@ module _ (p : List ℕ) where
   read-is-good zero = go (decide-packet p)
     where
       passes : (IsGoodPacket p → ⊥) → ⊥
-      passes = answer-zero (bad-value p) [] (λ e. lt-irrefl 0 (omega (arith, e))) (answer-zero (wrong-length p) (bad-value p ∷ []) (λ e. lt-irrefl 0 (omega (arith, e))) zero .1) .0
+      passes =
+          let then : answer-of (bad-value p ∷ []) ≡ 0 = answer-zero (wrong-length p) (bad-value p ∷ []) (λ e. lt-irrefl 0 (omega (arith, e))) zero .1 in
+          answer-zero (bad-value p) [] (λ e. lt-irrefl 0 (omega (arith, e))) then .0
 
       go : Dec (IsGoodPacket p) → IsGoodPacket p
       go (yes is) = is

@@ -10,21 +10,13 @@ use native.Mathlib.Numerals.{add-one}
 use native.Mathlib.Decide.{ℕ-discrete}
 use lib.ListN.{length, getD, take}
 use lib.Seq.{take-suc, split-at}
-use Rattle.basics.specs.Decides.{Decides, decides-yes, same-as}
-use Rattle.basics.specs.Members.{getD-mem}
+use Rattle.basics.specs.Decides.{Decides}
+use Rattle.basics.specs.Facts.Decides.{decides-yes, same-as}
+use Rattle.basics.specs.Facts.Members.{getD-mem}
 use Rattle.bits.specs.Bits.{InWords, IsWordsWith}
-use Rattle.bits.specs.WordFacts.{zeros, length-zeros}
+use Rattle.bits.specs.Facts.Words.{zeros, length-zeros}
 use Rattle.packets.specs.Good.{IdsGood}
-
--- The set has the remainder by 1,024 of each id. Two ids may share one, so that it may have the remainder of an id that was not met.
-abbrev pub HasMet : List ℕ → List ℕ → Type 0
-HasMet words ids = (x : ℕ) → List·Mem x ids → InWords words (x % 1024)
-
--- The ids met so far are good, and the set has their remainders.
-pub record IsMet (ids words : List ℕ) : Type 0 where
-  pub size : length words ≡ 16
-  pub good : IdsGood ids
-  pub all : HasMet words ids
+use Rattle.packets.specs.Met.{IsMet}
 
 pub none-good : IdsGood []
 none-good = record { range = λ id m. absurd (not-mem-nil m); once = nodup-nil }
@@ -84,12 +76,13 @@ good-is-new ids i good inside before =
 -- whether an id stands before the next place: it stands at this one
 pub found-at : (ids : List ℕ) (j x : ℕ) {next : Bool} → j < length ids → getD ids j 0 ≡ x → next ≡ true → Decides next (List·Mem x (take (j + 1) ids))
 found-at ids j x inside here yes-now =
+    let last : List·Mem x (getD ids j 0 ∷ []) = subst (λ (y : ℕ). List·Mem y (getD ids j 0 ∷ [])) here mem-cons-self in
     subst⁻¹ (λ (b : Bool). Decides b (List·Mem x (take (j + 1) ids))) yes-now
-    (decides-yes (subst⁻¹ (List·Mem x) (next-taken ids j inside) (mem-append-right (take j ids) (subst (λ (y : ℕ). List·Mem y (getD ids j 0 ∷ [])) here mem-cons-self))))
+    (decides-yes (subst⁻¹ (List·Mem x) (next-taken ids j inside) (mem-append-right (take j ids) last)))
 
 -- or it does not, and stands before the next place if it stands before this one
-pub passed-over : (ids : List ℕ) (j x : ℕ) {found next : Bool} → j < length ids → Decides found (List·Mem x (take j ids)) → (getD ids j 0 ≡ x → ⊥) → next ≡ found
-    → Decides next (List·Mem x (take (j + 1) ids))
+pub passed-over : (ids : List ℕ) (j x : ℕ) {found next : Bool} → j < length ids → Decides found (List·Mem x (take j ids)) → (getD ids j 0 ≡ x → ⊥)
+    → next ≡ found → Decides next (List·Mem x (take (j + 1) ids))
 passed-over ids j x inside decided other as-before =
     subst⁻¹ (λ (b : Bool). Decides b (List·Mem x (take (j + 1) ids))) as-before
     (same-as (λ m. subst⁻¹ (List·Mem x) (next-taken ids j inside) (mem-append-left (getD ids j 0 ∷ []) m))

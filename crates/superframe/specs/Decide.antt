@@ -1,13 +1,12 @@
--- Periods in range have exactly one least common multiple, and whether periods are in range can be decided.
-use mathlib.Core.Path.{_≡_}
+-- Whether periods are in range can be decided, and their least common multiple can be found.
 use mathlib.Core.Logic.{Dec·and}
 use mathlib.Core.List.{List, [], _∷_, List·Mem, not-mem-nil, decidableBAll, forall-mem-cons}
 use Prim.Native.Nat.{ℕ, _*_, _≤_}
 use native.Mathlib.Bridge.{le-prop}
-use native.Mathlib.Nat.{∣-prop, mul-pos, dvd-mul-left-of-dvd, dvd-mul-right, le-antisymm}
+use native.Mathlib.Nat.{∣-prop, mul-pos, dvd-mul-left-of-dvd, dvd-mul-right}
 use native.Mathlib.Decide.{decLe, decDvd}
 use native.Mathlib.Omega.{arith}
-use Rattle.superframe.specs.LeastFacts.{least-exists}
+use Rattle.superframe.specs.Facts.Least.{least-exists}
 use Rattle.superframe.specs.Periods.{AllInRange, IsCommonMultiple, IsLcm}
 
 pub decide-in-range : (periods : List ℕ) → Dec (AllInRange periods)
@@ -32,8 +31,6 @@ product-is-common-multiple (x ∷ xs) positive =
 
 -- periods in range have a least common multiple ..
 pub lcm-exists : (periods : List ℕ) → AllInRange periods → (m : ℕ) × IsLcm periods m
-lcm-exists periods in-range = least-exists (IsCommonMultiple periods) (decide-common-multiple periods) (product periods) (product-is-common-multiple periods (λ p m. in-range p m .0))
-
--- .. and only one
-pub lcm-unique : (periods : List ℕ) (m n : ℕ) → IsLcm periods m → IsLcm periods n → m ≡ n
-lcm-unique periods m n a b = le-antisymm (a .least n (b .holds)) (b .least m (a .holds))
+lcm-exists periods in-range =
+    let some = product-is-common-multiple periods (λ p m. in-range p m .0) in
+    least-exists (IsCommonMultiple periods) (decide-common-multiple periods) (product periods) some

@@ -5,9 +5,9 @@ use mathlib.Core.List.{List}
 use Prim.Native.Nat.{ℕ, zero, suc}
 use lib.Dec.{leb, eqb}
 use borrow.Author.Tests.{leb-true, eqb-true}
-use Rattle.superframe.specs.PeriodTests.{remainders, none-up-to, ranges, above, in-range, tested-lcm}
+use Rattle.superframe.specs.Facts.PeriodTests.{remainders, none-up-to, ranges, above, in-range, tested-lcm}
 use Rattle.superframe.specs.Superframe.{superframe-of}
-use Rattle.superframe.specs.SuperframeFacts.{gives-lcm, refuses-19}
+use Rattle.superframe.specs.Facts.Superframe.{gives-lcm, refuses-19}
 
 -- periods in range, with a least common multiple of 1 to 5,040 that is the value, or none up to 5,040, the answer 19 and the value 0
 unfoldable pub superframe-test : List ℕ → ℕ → ℕ → Bool

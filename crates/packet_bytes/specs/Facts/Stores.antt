@@ -8,7 +8,7 @@ use lib.ListN.{length, getD, take, drop, set, length-append, length-drop, length
 use lib.Seq.{take-suc, take-suc-set, take-length, take-all, length-take-le, drop-cons, set-at}
 use Rattle.packet_bytes.specs.Layout.{id-bytes}
 use Rattle.packet_bytes.specs.Parts.{ids-in}
-use Rattle.packet_bytes.specs.LayoutFacts.{length-id-bytes}
+use Rattle.packet_bytes.specs.Facts.Layout.{length-id-bytes}
 
 -- the first six bytes of a list
 pub six-stored : (p : List ℕ) (a b c d e f : ℕ) → 6 ≤ length p → set (set (set (set (set (set p 0 a) 1 b) 2 c) 3 d) 4 e) 5 f ≡ a ∷ b ∷ c ∷ d ∷ e ∷ f ∷ drop 6 p
@@ -29,14 +29,17 @@ id-bytes-append (x ∷ xs) ys = ap (λ (l : List ℕ). x / 256 ∷ x % 256 ∷ l
 pair-stored : (part done : List ℕ) (k high low : ℕ) → length done ≡ 2 * k → 2 * k + 1 < length part
     → set (set (done ++ drop (2 * k) part) (2 * k) high) (2 * k + 1) low ≡ (done ++ (high ∷ low ∷ [])) ++ drop (2 * (k + 1)) part
 pair-stored part done k high low size inside =
-    let first : drop (2 * k) part ≡ getD part (2 * k) 0 ∷ getD part (suc (2 * k)) 0 ∷ drop (suc (suc (2 * k))) part
-    = drop-cons part (2 * k) 0 (omega arith) ∙ ap (λ (l : List ℕ). getD part (2 * k) 0 ∷ l) (drop-cons part (suc (2 * k)) 0 (omega arith)) in
+    let x = getD part (2 * k) 0 in
+    let y = getD part (suc (2 * k)) 0 in
+    let rest = drop (suc (suc (2 * k))) part in
+    let first : drop (2 * k) part ≡ x ∷ y ∷ rest
+    = drop-cons part (2 * k) 0 (omega arith) ∙ ap (λ (l : List ℕ). x ∷ l) (drop-cons part (suc (2 * k)) 0 (omega arith)) in
     let next : suc (suc (2 * k)) ≡ 2 * (k + 1) = omega arith in
     let longer : length (done ++ (high ∷ [])) ≡ 2 * k + 1 = omega (arith, length-append done (high ∷ [])) in
     ap (λ (l : List ℕ). set (set (done ++ l) (2 * k) high) (2 * k + 1) low) first
-    ∙ ap (λ (l : List ℕ). set l (2 * k + 1) low) (set-at done (getD part (2 * k) 0) (getD part (suc (2 * k)) 0 ∷ drop (suc (suc (2 * k))) part) high (2 * k) size)
-    ∙ ap (λ (l : List ℕ). set l (2 * k + 1) low) (sym (append-assoc done (high ∷ []) (getD part (suc (2 * k)) 0 ∷ drop (suc (suc (2 * k))) part)))
-    ∙ set-at (done ++ (high ∷ [])) (getD part (suc (2 * k)) 0) (drop (suc (suc (2 * k))) part) low (2 * k + 1) longer
+    ∙ ap (λ (l : List ℕ). set l (2 * k + 1) low) (set-at done x (y ∷ rest) high (2 * k) size)
+    ∙ ap (λ (l : List ℕ). set l (2 * k + 1) low) (sym (append-assoc done (high ∷ []) (y ∷ rest)))
+    ∙ set-at (done ++ (high ∷ [])) y rest low (2 * k + 1) longer
     ∙ simp (append-assoc, next)
 
 -- The first k ids are stored; later bytes are as they were.
@@ -77,7 +80,8 @@ module _ (part ids : List ℕ) (room : 2 * length ids ≤ length part) where
       is .stored ∙ rw (e, take-length ids) refl
 
 -- a pair of bytes more is an id more
-pair-more : (k : ℕ) (p : List ℕ) → 2 * k + 1 < length p → ids-in (take (2 * (k + 1)) p) ≡ ids-in (take (2 * k) p) ++ ((getD p (2 * k) 0 * 256 + getD p (2 * k + 1) 0) ∷ [])
+pair-more : (k : ℕ) (p : List ℕ) → 2 * k + 1 < length p
+    → ids-in (take (2 * (k + 1)) p) ≡ ids-in (take (2 * k) p) ++ ((getD p (2 * k) 0 * 256 + getD p (2 * k + 1) 0) ∷ [])
 unfolding ids-in
 pair-more k [] inside = absurd (omega arith)
 pair-more k (a ∷ []) inside = absurd (omega arith)

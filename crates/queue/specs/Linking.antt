@@ -132,8 +132,8 @@ moved-all ids amounts (suc k) es = moved (getD ids k 0) (getD amounts k 0) (move
 -- What n moves need beyond a sound queue: each id is at its place, and no move leaves the bounds.
 pub record CanMoveAll (q : Queue) (placed : Placed) (amounts : List ℕ) (n : ℕ) : Type 0 where
   pub sound : Sound q
-  pub few : n ≤ 64
-  pub places : ArePlaced q placed n
+  pub few : n ≤ places
+  pub placed-there : ArePlaced q placed n
   pub bounds : (k : ℕ) → k < n → InBounds (moved-all (placed .ids) amounts (suc k) (entries q))
 
 -- Every entry after a point has its key among the 480 from a given key on.

@@ -48,11 +48,6 @@ pub record IsPlaceOf (table : Table) (id r : ℕ) : Type 0 where
   pub found : r < table .count → record-at table r .id ≡ id
   pub absent : r ≡ table .count → HasId id (records-of table) → ⊥
 
--- A record of the table with an id.
-pub record IsRecordOf (rs : List Record) (id : ℕ) (r : Record) : Type 0 where
-  pub there : List·Mem r rs
-  pub has-id : r .id ≡ id
-
 -- A table with just these records; they fit its 64 places.
 pub record HasRecords (rs : List Record) (table : Table) : Type 0 where
   pub records : records-of table ≡ rs

@@ -212,7 +212,7 @@ module _ {p : Planner} {s : ℕ} {chosen : Chosen} (can : CanServeAll p s chosen
         record {
           sound = can .can-choose .sound .queue-sound;
           few = chosen-below;
-          places = λ k more. can .are-found k more .in-queue;
+          placed-there = λ k more. can .are-found k more .in-queue;
           bounds = λ k more.
               let (x, m, number, period) = serving .noted k more in
               subst⁻¹ InBounds (next-moved k more)

@@ -38,10 +38,10 @@ module _ (q : Queue) (placed : Placed) (amounts : List ℕ) (n : ℕ) (can : Can
     amount = getD amounts k 0
 
     has-id : id-at r place ≡ id
-    has-id = ap (λ (ids : List ℕ). getD ids place 0) (moving .ids) ∙ can .places k more .has-id
+    has-id = ap (λ (ids : List ℕ). getD ids place 0) (moving .ids) ∙ can .placed-there k more .has-id
 
     holds : Holds r place
-    holds = let there = can .places k more in (there .holds .0, rw (has-id ∙ sym (there .has-id)) (there .holds .1))
+    holds = let there = can .placed-there k more in (there .holds .0, rw (has-id ∙ sym (there .has-id)) (there .holds .1))
 
     -- the entries with this move done too
     next-entries : moved (id-at r place) amount (entries r) ≡ moved-all (placed .ids) amounts (suc k) (entries q)

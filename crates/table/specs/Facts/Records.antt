@@ -1,23 +1,18 @@
--- What the rules see of records when one is put in, taken out or served, for the layer above.
-use mathlib.Core.Path.{_≡_, refl, sym, ap, _∙_}
-use mathlib.Core.Logic.{_↔_, ite, Dec·not}
+-- What the rules see of records when one is put in or taken out, and that an id has one record, for the layer above.
+use mathlib.Core.Path.{_≡_, sym, ap}
+use mathlib.Core.Logic.{ite, Dec·not}
 use mathlib.Core.HLevel.{hedberg, ¬-prop}
 use mathlib.Mathlib.Data.List.Nodup.{inj-on-of-nodup-map}
-use mathlib.Core.List.{List, [], _∷_, List·Mem, map, filter, map-map, map-congr-left, mem-map, filter-map, Pairwise·map}
+use mathlib.Core.List.{List, [], _∷_, List·Mem, map, filter, map-map, filter-map, Pairwise·map}
 use mathlib.Core.List.{Perm, Perm·refl, Perm·cons, Perm·swap, Perm·trans}
 use Prim.Native.Nat.{ℕ, _<_}
 use native.Mathlib.Nat.{lt-irrefl}
 use native.Mathlib.Decide.{decLt, ℕ-discrete}
 use native.Mathlib.Omega.{arith}
 use Rattle.rules.specs.Streams.{Stream}
-use Rattle.rules.specs.Slots.{next}
 use Rattle.table.specs.Table.{stream-of, as-streams}
-use Rattle.table.specs.Changes.{Ascending, put-by-id, without-id, sent, stepped, serve}
+use Rattle.table.specs.Changes.{Ascending, put-by-id, without-id}
 use Rattle.table.specs.declared.Record.{Record}
-
--- a stream is seen just where a record of it is
-pub in-as-streams : (rs : List Record) {s : Stream} → List·Mem s (as-streams rs) ↔ ∥ ((r : Record) × List·Mem r rs × (stream-of r ≡ s)) ∥₁
-in-as-streams rs = mem-map
 
 -- the streams' numbers are the records' ids
 pub numbers : (rs : List Record) → map (λ (s : Stream). s .number) (as-streams rs) ≡ map (λ (r : Record). r .id) rs
@@ -39,22 +34,6 @@ pub as-streams-without : (id : ℕ) (rs : List Record)
     → as-streams (without-id id rs) ≡ filter (λ (s : Stream). Dec·not (ℕ-discrete (s .number) id)) (as-streams rs)
 unfolding without-id
 as-streams-without id rs = sym (filter-map (λ (s : Stream). Dec·not (ℕ-discrete (s .number) id)) stream-of rs)
-
--- a record served is seen as its stream at the next packet
-stepped-as-stream : (id : ℕ) (r : Record) → stream-of (stepped id r) ≡ ite (ℕ-discrete (r .id) id) (next (stream-of r)) (stream-of r)
-stepped-as-stream id r = go (ℕ-discrete (r .id) id)
-  where
-    go : (same : Dec (r .id ≡ id)) → stream-of (ite same (sent r) r) ≡ ite same (next (stream-of r)) (stream-of r)
-    go (yes served) = refl
-    go (no other) = refl
-
-pub as-streams-serve : (id : ℕ) (rs : List Record)
-    → as-streams (serve id rs) ≡ map (λ (s : Stream). ite (ℕ-discrete (s .number) id) (next s) s) (as-streams rs)
-unfolding serve
-as-streams-serve id rs =
-    map-map stream-of (stepped id) rs
-    ∙ map-congr-left {l = rs} (λ r m. stepped-as-stream id r)
-    ∙ sym (map-map (λ (s : Stream). ite (ℕ-discrete (s .number) id) (next s) s) stream-of rs)
 
 record-discrete : Discrete Record
 record-discrete q r =

@@ -13,11 +13,12 @@ use Rattle.command.specs.declared.step.Step.{Step}
 abbrev pub part-of : List ℕ → ℕ → ℕ → List ℕ
 part-of bytes from to = take (to - from) (drop from bytes)
 
--- Each line is the part up to the next byte 10, has the next number, gets the planner that the one before left, and is answered as IsStep says.
+-- Each line is the part up to the next byte 10, has the next number, gets the planner that the one before left, and is answered as IsStep says. It
+-- is run only with room for 1,430 bytes more.
 pub data Reaches (bytes : List ℕ) (s : Reached) (out : List ℕ) : Reached → List ℕ → Type 0 where
   none : Reaches bytes s out s out
   one-more : {t : Reached} {written : List ℕ} → Reaches bytes s out t written
-      → (to : ℕ) → IsLineEnd bytes (t .from) to → to < length bytes → (after : List ℕ) (r : Step)
+      → (to : ℕ) → IsLineEnd bytes (t .from) to → to < length bytes → t .end + 1430 ≤ length out → (after : List ℕ) (r : Step)
       → IsStep (t .planner) (t .number + 1) (part-of bytes (t .from) to) written after (t .end) r
       → Reaches bytes s out (record { planner = r .planner; number = t .number + 1; from = to + 1; end = r .end }) after
 
@@ -27,7 +28,7 @@ pub record CanRun (s : Reached) (bytes out : List ℕ) : Type 0 where
   pub in-buffer : s .end ≤ length out
   pub counts : s .number + length bytes < 18_446_744_073_709_551_616
 
--- Lines were run until no whole one was left, or fewer than 1,430 places of the buffer, which an answer may take.
+-- Annex 11.24: lines were run until no whole one was left, or fewer than 1,430 places of the buffer, which an answer may take.
 pub record HasRun (s : Reached) (bytes before after : List ℕ) (r : Reached) : Type 0 where
   pub reaches : Reaches bytes s before r after
   pub in-input : r .from ≤ length bytes
@@ -35,7 +36,7 @@ pub record HasRun (s : Reached) (bytes before after : List ℕ) (r : Reached) : 
   pub counts : r .number + s .from ≤ s .number + r .from
   pub stopped : IsLineEnd bytes (r .from) (length bytes) ⊎ (length before < r .end + 1430)
 
--- 01: "the last may lack it": what is left is a line, unless nothing is, or the buffer may be too short.
+-- Annex 11.24: what is left behind the last line end is run as a line, unless nothing is left, or fewer than 1,430 places of the buffer.
 pub record HasRunLast (s : Reached) (bytes before after : List ℕ) (r : Reached) : Type 0 where
   pub nothing-left : s .from ≡ length bytes → (r ≡ s) × (after ≡ before)
   pub no-room : length before < s .end + 1430 → (r ≡ s) × (after ≡ before)

@@ -70,7 +70,7 @@ module _ {s : Reached} {bytes before : List ℕ} (can : CanRun s bytes before) w
       one-more-run {later} {r} inside room is =
           let low : to < length bytes = below to (length bytes) (line-end .within) inside in
           record {
-            reaches = one-more (running .reaches) to line-end low later r is;
+            reaches = one-more (running .reaches) to line-end low (omega (arith, room, running .long)) later r is;
             in-input = omega arith;
             in-buffer = omega (arith, is .room, running .long, room);
             counts = omega (arith, running .counts, line-end .after);

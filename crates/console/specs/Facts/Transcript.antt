@@ -167,7 +167,7 @@ pub run-told : {bytes out after : List ℕ} {s t : Reached} → Reaches bytes s 
 run-told {bytes} {out} {s = s} reached-none empty within read written told =
     let nothing : written ≡ written ++ take (s .end) out = sym (append-nil written) ∙ ap (λ (k : ℕ). written ++ take k out) (sym empty) in
     (refl, subst (λ (l : List ℕ). Told read l (s .planner) (s .number) (drop (s .from) bytes)) nothing told)
-run-told {bytes} {out} {s = s} (one-more {t} {written = mid} reaches to line-end inside after r is) empty within read written told =
+run-told {bytes} {out} {s = s} (one-more {t} {written = mid} reaches to line-end inside room after r is) empty within read written told =
     let earlier : t .end ≤ r .end = omega (arith, is .written .ends) in
     let (same, so-far) = run-told reaches empty (omega (arith, within, earlier)) read written told in
     let line = part-of bytes (t .from) to in

@@ -4,10 +4,11 @@ use mathlib.Core.Logic.{_⊎_, inl, inr, ⊎-elim}
 use Prim.Native.Nat.{ℕ, _<_}
 use native.Mathlib.Decide.{decLt, ℕ-discrete}
 
--- a is less than b, or they are equal and the rest is in order.
+-- Annex 5.2, 8.2: in order by a number, the smaller first, and among equals by the rest: a is less than b, or they are equal and the rest is in order.
 abbrev pub Then : ℕ → ℕ → Type 0 → Type 0
 Then a b Rest = (a < b) ⊎ ((a ≡ b) × Rest)
 
+-- Such an order can be decided if the rest can.
 pub decide-then : (a b : ℕ) {R : Type 0} → Dec R → Dec (Then a b R)
 decide-then a b {R} rest = go (decLt a b) (ℕ-discrete a b) rest
   where

@@ -1,18 +1,18 @@
 -- Limits that several crates share, each with the name of what it limits.
 use Prim.Native.Nat.{ℕ}
 
--- The last start: no round starts later.
+-- Annex 1.3: the last start: a planner may hold a round at it, and none later.
 abbrev pub last-start : ℕ
 last-start = 1_000_000_000
 
--- The places of a table and of a queue: so many streams, or ids, are held at most.
+-- Annex 3.6: the places of a table and of a queue: so many records, or entries, are held at most.
 abbrev pub places : ℕ
 places = 64
 
--- The most slots of a round, the largest B.
+-- Annex 3.6: the most slots of a round, the largest B.
 abbrev pub most-slots : ℕ
 most-slots = 64
 
--- The largest id.
+-- Annex 3.7: the largest id that a stream can have.
 abbrev pub largest-id : ℕ
 largest-id = 32_767

@@ -7,18 +7,18 @@ use Rattle.planner.specs.Round.{IsRound}
 use Rattle.planner.specs.declared.Planner.{Planner}
 use Rattle.lent.specs.declared.Held.{Held}
 
--- The answer, and the planner at exit, are those of open.
+-- Annex 7.35: the answer, and the planner at exit, are those of open, whatever the planner was.
 abbrev pub IsLentOpen : Setting → Planner → ℕ → Type 0
 IsLentOpen s after r = IsOpened s (record { answer = r; planner = after })
 
--- The same for add.
+-- Annex 7.35: the answer, and the planner at exit, are those of add for the planner at entry.
 abbrev pub IsLentAdd : Planner → Offer → Planner → ℕ → Type 0
 IsLentAdd before o after r = IsAdd before o (record { answer = r; planner = after })
 
--- The same for remove.
+-- Annex 7.35: the answer, and the planner at exit, are those of remove for the planner at entry.
 abbrev pub IsLentRemove : Planner → ℕ → Planner → ℕ → Type 0
 IsLentRemove before id after r = IsRemove before id (record { answer = r; planner = after })
 
--- The same for round, and the buffer at exit is that of round.
+-- Annex 7.35: the answer, start and n, and the planner and the buffer at exit, are those of round for the planner and the buffer at entry.
 abbrev pub IsLentRound : Planner → List ℕ → List ℕ → Planner → Held → Type 0
 IsLentRound before buffer written after r = IsRound before buffer written (record { answer = r .answer; planner = after; start = r .start; n = r .n })

@@ -1,5 +1,5 @@
 // The planner that the firmware keeps and lends to each call to be changed: thin forms over the calls by value, exported to C.
-// 01: a refused call writes nothing. So add, remove and round store the planner only where the answer is 0; open stores always.
+// A refused call stores nothing (Annex 7.37, 13.6): add, remove and round store the planner only where the answer is 0; open stores always.
 ghost use mathlib.Core.Path.{_≡_};
 ghost use lib.ListN.{length, take};
 ghost use Rattle.planner.specs.Open.{setting};
@@ -71,7 +71,7 @@ pub extern "C" fn planner_round(p: &mut Planner, buffer: &mut [u16]) -> Held
     }
 }
 
-// How long the part is that `planner::filled` hands back: C takes that many places from the front of its own buffer.
+// Annex 7.36: how long the part is that `planner::filled` hands back: C takes that many places from the front of its own buffer.
 #[no_mangle]
 pub extern "C" fn planner_filled(buffer: &[u16], n: u32) -> usize
     ensures { λ r. ⌜ r ≡ length (take n (now (buffer .entry))) ⌝ }

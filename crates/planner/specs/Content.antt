@@ -1,4 +1,4 @@
--- What a planner holds, as document 01 says it under "What a planner holds".
+-- What a planner holds: Annex, chapter 3.
 use mathlib.Core.List.{List}
 use Prim.Native.Nat.{ℕ, _+_}
 use Rattle.rules.specs.Streams.{Stream}
@@ -6,7 +6,7 @@ use Rattle.table.specs.Table.{records-of, as-streams}
 use Rattle.table.specs.declared.Record.{Record}
 use Rattle.planner.specs.declared.Planner.{Planner}
 
--- 01: "B, F, G, the last round's start L, and each stream with its first unserved packet."
+-- Annex 3.1: what a planner holds: B, F, G, the start L of the last round, and the records.
 pub record Content : Type 0 where
   pub slots : ℕ
   pub frame : ℕ
@@ -14,6 +14,7 @@ pub record Content : Type 0 where
   pub last : ℕ
   pub table : List Record
 
+-- Annex 3.1: what this planner holds; its queue, and the places of its table that no record uses, are no part of it.
 abbrev pub content : Planner → Content
 content p = record { slots = p .slots; frame = p .frame; gap = p .gap; last = p .last; table = records-of (p .table) }
 
@@ -25,15 +26,15 @@ streams-in h = as-streams (h .table)
 abbrev pub slots-of : Content → ℕ
 slots-of h = h .slots
 
--- 01: "Now" is L + 1.
+-- Annex 3.4: now is L + 1, the end of the last round.
 abbrev pub now-of : Content → ℕ
 now-of h = h .last + 1
 
--- 02 (v): the latest next start is L + 1 + G, since the gap runs from the end of the last round, which is now.
+-- Annex 4.5: the cap, the latest next start: now + G, which is L + 1 + G, since the gap runs from the end of the last round.
 abbrev pub cap-of : Content → ℕ
 cap-of h = now-of h + h .gap
 
--- 02 (v): from a start to the next it is at most G + 1, since a round ends one after its start.
+-- Annex 6.3: from a start to the next it is at most G + 1, since G runs from a round's end, one after its start.
 abbrev pub start-gap-of : Content → ℕ
 start-gap-of h = h .gap + 1
 

@@ -68,6 +68,7 @@ decide-files es rs =
     (Dec·and (decidableBAll (λ (e : Entry). decidableBEx (λ (r : Record). entry-discrete e (entry-of r)) rs) es)
     (decidableBAll (λ (r : Record). decMem entry-discrete (entry-of r) es) rs))
 
+-- Whether a planner is sound can be decided.
 pub decide-sound : (p : Planner) → Dec (Sound p)
 decide-sound p =
     map-dec (λ w. record { count = w .0; content-sound = w .1 .0; queue-sound = w .1 .1 .0; files = w .1 .1 .1 })
@@ -76,6 +77,7 @@ decide-sound p =
     (Dec·and (decide-content (content p))
     (Dec·and (Interface.decide-sound (p .queue)) (decide-files (entries (p .queue)) (content p .table)))))
 
+-- Whether it starts late can be decided: a sound planner has just one lazy start.
 pub decide-late : (p : Planner) → Dec (Sound p) → Dec (StartsLate p)
 decide-late p (no unsound) = yes (λ sound. absurd (unsound sound))
 decide-late p (yes sound) = go (sound-start p sound)

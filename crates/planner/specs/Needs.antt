@@ -79,13 +79,14 @@ pub record IsFoundAt (table : Table) (queue : Queue) (id row place : ℕ) : Type
 abbrev pub AreFound : Table → Queue → Chosen → Type 0
 AreFound table queue chosen = (k : ℕ) → k < chosen .n → IsFoundAt table queue (getD (chosen .ids) k 0) (getD (chosen .rows) k 0) (getD (chosen .places) k 0)
 
+-- What serving the slots relies on: they are those of the start of a sound planner, which is not late, each id beside its row and place.
 pub record CanServeAll (p : Planner) (s : ℕ) (chosen : Chosen) : Type 0 where
   pub can-choose : CanChoose p s
   pub by-last : s ≤ last-start
   pub is-chosen : IsChosen (content p) s chosen
   pub are-found : AreFound (p .table) (p .queue) chosen
 
--- the planner's table with its rows rewritten
+-- The planner's table with its rows rewritten.
 abbrev pub table-of : Planner → List Record → Table
 table-of p streams = record { count = p .table .count; streams = streams }
 

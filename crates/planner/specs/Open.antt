@@ -1,4 +1,4 @@
--- What open answers and leaves, as document 01 says it under "Open".
+-- What open answers and leaves: Annex, chapter 7.
 use mathlib.Core.Path.{_≡_}
 use mathlib.Core.Logic.{Dec·and, Dec·not}
 use mathlib.Core.List.{List, [], _∷_}
@@ -15,22 +15,22 @@ use Rattle.planner.specs.Content.{Content, content}
 use Rattle.planner.specs.declared.Planner.{Planner}
 use Rattle.planner.specs.declared.Changed.{Changed}
 
--- A refusal of a number that is not 1 to a limit.
+-- Annex 7.6: the refusal with this number, which applies unless n is 1 to a limit.
 abbrev pub not-in : ℕ → ℕ → ℕ → Refusal
 not-in number limit n = record { number = number; Applies = ((1 ≤ n) × (n ≤ limit)) → ⊥; decided = Dec·not (Dec·and (decLe 1 n) (decLe n limit)) }
 
--- 01: "4 for T above 1,000,000,000".
+-- Annex 7.6: 4 if T is above 1,000,000,000.
 abbrev pub late : ℕ → Refusal
 late t = record { number = 4; Applies = last-start < t; decided = decLt last-start t }
 
--- What open is passed: B, F, G and T.
+-- Annex 7.1, 7.5: what open is passed, any numbers: B, F, G, and T, taken for the start of the last round.
 pub record Setting : Type 0 where
   pub slots : ℕ
   pub frame : ℕ
   pub gap : ℕ
   pub last : ℕ
 
--- These numbers as a setting.
+-- Annex 7.5: these numbers, in the order of B, F, G and T, as a setting.
 abbrev pub setting : (slots frame gap last : ℕ) → Setting
 setting slots frame gap last = record { slots = slots; frame = frame; gap = gap; last = last }
 
@@ -42,15 +42,15 @@ zeros = setting 0 0 0 0
 abbrev pub setting-of : Content → Setting
 setting-of h = setting (h .slots) (h .frame) (h .gap) (h .last)
 
--- 01: "It refuses 1 for B, 2 for F, 3 for G out of range, 4 for T above 1,000,000,000."
+-- Annex 7.6: the refusals of open: 1 unless B is 1 to 64, 2 unless F is 1 to 5,040, 3 unless G is 1 to 255, and 4 if T is too late.
 abbrev pub open-refusals : Setting → List Refusal
 open-refusals s = not-in 1 most-slots (s .slots) ∷ not-in 2 5040 (s .frame) ∷ not-in 3 255 (s .gap) ∷ late (s .last) ∷ []
 
--- 01: "The new planner has L = T."
+-- Annex 7.7: what a planner holds once opened: B, F and G as passed, T for L, and no record.
 abbrev pub opened : Setting → Content
 opened s = record { slots = s .slots; frame = s .frame; gap = s .gap; last = s .last; table = [] }
 
--- 01: "the closed planner: every number 0, no stream, an empty queue".
+-- Annex 3.12: what the closed planner holds: 0 for B, F, G and L, and no record.
 abbrev pub closed : Content
 closed = opened zeros
 
@@ -62,16 +62,16 @@ no-streams = record { count = 0; streams = replicate places no-record }
 abbrev pub fresh-with : Setting → Queue → Planner
 fresh-with s queue = record { slots = s .slots; frame = s .frame; gap = s .gap; last = s .last; table = no-streams; queue = queue }
 
--- The same with the empty queue.
+-- Annex 3.12, 7.7: the planner with these numbers, zeros at every place for a record, and the empty queue; with four zeros it is the closed planner.
 abbrev pub fresh : Setting → Planner
 fresh s = fresh-with s empty-queue
 
--- A planner is the fresh one, so that nothing of it is left free, and holds what was passed.
+-- Annex 7.7: a planner is the fresh one, so that nothing of it is left free, and holds what was passed.
 pub record IsFresh (s : Setting) (p : Planner) : Type 0 where
   pub whole : p ≡ fresh s
   pub holds : content p ≡ opened s
 
--- Open gives the answer of its refusals; the planner holds what was passed, or is the closed one if refused.
+-- Annex 7.8: open gives the answer of its refusals; the planner is the fresh one with what was passed, or if refused the closed one.
 pub record IsOpened (s : Setting) (r : Changed) : Type 0 where
   pub answer : r .answer ≡ answer-of (open-refusals s)
   pub opened : answer-of (open-refusals s) ≡ 0 → IsFresh s (r .planner)

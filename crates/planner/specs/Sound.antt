@@ -1,4 +1,4 @@
--- When a planner is sound, (a) to (e) of document 01.
+-- When a planner is sound: Annex, chapter 3.
 use mathlib.Core.Path.{_≡_}
 use mathlib.Core.Logic.{_↔_}
 use mathlib.Core.List.{List, List·Mem}
@@ -14,7 +14,7 @@ use Rattle.queue.specs.Interface
 use Rattle.planner.specs.Content.{Content, content, slots-of, streams-in, now-of}
 use Rattle.planner.specs.declared.Planner.{Planner}
 
--- 01 (a): "all values are in range, each P divides F and ids differ".
+-- Annex 3.6: B is 1 to 64, F 1 to 5,040, G 1 to 255, L at most 1,000,000,000; there are at most 64 records, and they are in range (3.7).
 pub record InRange (h : Content) : Type 0 where
   pub slots : (1 ≤ h .slots) × (h .slots ≤ most-slots)
   pub frame : (1 ≤ h .frame) × (h .frame ≤ 5040)
@@ -23,22 +23,23 @@ pub record InRange (h : Content) : Type 0 where
   pub at-most : length (h .table) ≤ places
   pub records : RecordsInRange (h .frame) (h .table)
 
--- 01 (a) to (d).
+-- Annex 3.9, 3.10: what a planner holds is in range and its records near now (3.6 to 3.8), and they keep the demand rule, and the start rule at now.
 pub record ContentSound (h : Content) : Type 0 where
   pub in-range : InRange h
   pub near : AreNear (now-of h) (h .table)
   pub demand-rule : DemandRule (slots-of h) (streams-in h)
   pub start-rule : StartRule (slots-of h) (now-of h) (streams-in h)
 
--- A record's entry in the queue: its id under the due time of its unserved packet, with that packet's release.
+-- Annex 3.11: a record's entry in the queue: its id under the due time of its unserved packet, with that packet's release.
 abbrev pub entry-of : Record → Entry
 entry-of r = record { key = due-of r; release = r .release; id = r .id }
 
--- 01 (e): "its queue files exactly its streams under their due times". 02 (ii): "soundness (e) asks for the release too".
+-- Annex 3.11: the entries are just those of the records: each entry is some record's, and each record's is there.
 abbrev pub Files : List Entry → List Record → Type 0
 Files es rs = (e : Entry) → List·Mem e es ↔ ∥ ((r : Record) × List·Mem r rs × (e ≡ entry-of r)) ∥₁
 
--- 01: "A planner is sound if (a) .. (e)". The count is that of the streams, so it is at most 64 too.
+-- Annex 3.5: a planner is sound: what it holds is, its queue is, and the queue files its records. The count is that of the records, so it is at most
+-- 64 too.
 pub record Sound (p : Planner) : Type 0 where
   pub count : p .table .count ≤ places
   pub content-sound : ContentSound (content p)

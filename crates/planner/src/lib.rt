@@ -40,7 +40,7 @@ pub struct Rounded {
     pub n: u32,
 }
 
-// Takes a stream in: its first packet is released at `start`.
+// Annex 7.10 to 7.20: takes a stream in, whose first packet is released at `start`.
 pub fn add(p: Planner, id: u32, start: u32, period: u32, deadline: u32) -> Changed
     ensures { λ r. ⌜ IsAdd p (offer id start period deadline) r ⌝ }
 {
@@ -52,7 +52,7 @@ pub fn add(p: Planner, id: u32, start: u32, period: u32, deadline: u32) -> Chang
     Changed { answer: 0, planner }
 }
 
-// Takes a stream out, and its waiting packet with it.
+// Annex 7.22, 7.23: takes a stream out, and its waiting packet with it.
 pub fn remove(p: Planner, id: u32) -> Changed
     ensures { λ r. ⌜ IsRemove p id r ⌝ }
 {
@@ -81,7 +81,7 @@ fn round_refusal_tested(p: Planner, start: u32, length: usize) -> u32
     0
 }
 
-// Holds the next round: its ids go to the first n places of the buffer.
+// Annex 7.24 to 7.32: holds the next round; its ids go to the first n places of the buffer.
 pub fn round(p: Planner, buffer: &mut [u16]) -> Rounded
     ensures { λ r. ⌜ IsRound p (now (buffer .entry)) (now (buffer .exit)) r ⌝ }
 {
@@ -107,7 +107,7 @@ pub fn round(p: Planner, buffer: &mut [u16]) -> Rounded
     }
 }
 
-// The part of the slot buffer that a round filled: its first n places, or all of it if n is above its length.
+// Annex 7.34: the part of the slot buffer that a round filled: its first n places, or all of it if n is above its length.
 pub fn filled(buffer: &[u16], n: u32) -> &[u16]
     ensures { λ r. ⌜ now r ≡ take n (now (buffer .entry)) ⌝ }
 {

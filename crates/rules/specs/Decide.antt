@@ -93,10 +93,12 @@ decide-steady f a b x = go (decLe (a .gain) (b * a .frame))
         (decide-below (λ t. x < t → f t ≤ b * (t - x)) (λ t. decide-implies (decLt x t) (decLe (f t) (b * (t - x)))) (start + a .frame))
     go (no fast) = no (λ rule. omega (arith, bounded (omega arith) rule (b * start + 1)))
 
+-- Whether the demand rule holds can be decided.
 pub decide-demand-rule : (b : ℕ) (ss : List Stream) → Dec (DemandRule b ss)
 decide-demand-rule b ss =
     subst (λ (room : ℕ → ℕ). Dec ((t : ℕ) → 1 ≤ t → demand ss t ≤ b * room t)) (fun-ext sub-zero)
     (decide-steady (demand ss) (subst Steady (fun-ext (count-by-demand ss)) (steady-count (λ (s : Stream). s .deadline) ss)) b 0)
 
+-- Whether the start rule holds can be decided.
 pub decide-start-rule : (b now : ℕ) (ss : List Stream) → Dec (StartRule b now ss)
 decide-start-rule b now ss = decide-steady (future ss) (subst Steady (fun-ext (count-by-future ss)) (steady-count due ss)) b now

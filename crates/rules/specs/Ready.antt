@@ -9,7 +9,7 @@ use Rattle.rules.specs.Runs.{State}
 abbrev pub AllWellFormed : List Stream → Type 0
 AllWellFormed ss = (s : Stream) → List·Mem s ss → WellFormed s
 
--- W(T): how many due times any T units can hold at most.
+-- Annex 4.13: W(T), the sum of ceil(T / P) over the streams: how many due times any T units can hold at most.
 unfoldable pub most-in : List Stream → ℕ → ℕ
 most-in [] T = 0
 most-in (s ∷ ss) T = ceil T (s .period) + most-in ss T
@@ -23,7 +23,7 @@ unfoldable pub count-by : (Stream → ℕ) → List Stream → ℕ → ℕ
 count-by first [] t = 0
 count-by first (s ∷ ss) t = packets-by (s .period) (first s) t + count-by first ss t
 
--- T is a busy length: any T units hold at most b × T due times.
+-- Annex 4.13: T is a busy length: T is at least 1 and W(T) at most b × T, so that any T units hold at most b × T due times.
 abbrev pub IsBusy : ℕ → List Stream → ℕ → Type 0
 IsBusy b ss T = (1 ≤ T) × (most-in ss T ≤ b * T)
 

@@ -13,11 +13,12 @@ pub record State : Type 0 where
   pub cap : ℕ
   pub table : List Stream
 
--- The round at s with the slots of the rules.
+-- Annex 1.2: the round at s, with the unserved packets of its slots in order.
 abbrev pub round-at : ℕ → State → ℕ → Round
 round-at b st s = record { start = s; packets = map (λ (x : Stream). packet x 0) (slots b s (st .table)) }
 
--- The state after it: now is one past its start, the cap a gap past its start. A planner's G is counted from its end: the gap here is G + 1.
+-- Annex 1.2: the state after a round at s: now is its end, s + 1, the cap a gap past its start, and the streams served are at their next packets.
+-- A planner's G is counted from the end: the gap here is G + 1.
 abbrev pub after : ℕ → ℕ → State → ℕ → State
 after b gap st s = record { now = s + 1; cap = s + gap; table = after-round b s (st .table) }
 
@@ -28,11 +29,11 @@ pub data Held (b gap : ℕ) (st : State) : List Round → State → Type 0 where
   then : {rounds : List Round} {at : State} → Held b gap st rounds at → (s : ℕ) → IsLazyStart b (at .cap) (at .table) s
       → Held b gap st (rounds ++ (round-at b at s ∷ [])) (after b gap at s)
 
--- 01: "sent in time": some held round sends the packet, and the packet may ride there.
+-- Sent in time: some held round sends the packet, and the packet may ride there.
 abbrev pub SentInTime : List Round → Packet → Type 0
 SentInTime rounds q = ∥ ((r : Round) × List·Mem r rounds × List·Mem q (r .packets) × MayRide q (r .start)) ∥₁
 
--- 01: "The end of the last round is the last held start + 1, or now if none was held."
+-- The end of the last round: the last held start + 1, or now where none was held.
 unfoldable pub end-of : ℕ → List Round → ℕ
 end-of now [] = now
 end-of now (r ∷ rounds) = end-of (r .start + 1) rounds

@@ -10,17 +10,16 @@ use lib.ListN.{length, take}
 use Rattle.basics.specs.Lexicographic.{Then}
 use Rattle.rules.specs.Streams.{Stream, Packet, packet, due, MayRide, PacketOf}
 
--- 02 (ii): "Packets due at the same time now go by earlier release, then by smaller id": p comes before q.
+-- Annex 5.2: p comes before q: it is due earlier; with equal due times, released earlier; with these equal too, of the smaller number.
 abbrev pub ComesBefore : Packet → Packet → Type 0
 ComesBefore p q = Then (p .due) (q .due) (Then (p .release) (q .release) (p .number < q .number))
 
--- q is one "of the packets that may ride" in a round at s: whichever packet of its stream it is, from the unserved one on.
+-- Annex 5.1: q is a rider of a round at s: a packet of the table, whichever of its stream from the unserved one on, that may ride at s.
 abbrev pub IsRider : ℕ → List Stream → Packet → Type 0
 IsRider s ss q = PacketOf ss q × MayRide q s
 
--- 01: "Slots: of the packets that may ride, the first B .., written in that order", which is that of 02 (ii): they come before each one that
--- is left out, and one is left out only where there are b of them. There is only one such list; in a table whose unserved packets are all due after s
--- it has the unserved packets of the streams that `slots` below computes.
+-- Annex 5.3: the slots of a round at s: riders in their order, at most b, that come before each rider left out; and one is left out only where there are
+-- b of them. No other list is; where all unserved packets are due after s, it has those of the streams that `slots` below computes.
 pub record IsSlots (b s : ℕ) (ss : List Stream) (qs : List Packet) : Type 0 where
   pub ride : (q : Packet) → List·Mem q qs → IsRider s ss q
   pub ordered : Pairwise ComesBefore qs
@@ -52,7 +51,7 @@ unfoldable pub in-order : List Stream → List Stream
 in-order [] = []
 in-order (x ∷ xs) = put-in-order x (in-order xs)
 
--- The slots as streams: those whose unserved packets are the first b of the packets that may ride, in that order.
+-- Annex 5.5: the slots, found by each stream's unserved packet alone: of the streams whose unserved packet may ride at s, the first b in that order.
 unfoldable pub slots : ℕ → ℕ → List Stream → List Stream
 slots b s ss = take b (in-order (riders s ss))
 
@@ -64,13 +63,14 @@ next x = record { number = x .number; period = x .period; deadline = x .deadline
 abbrev pub Served : List Stream → Stream → Type 0
 Served chosen x = List·Mem (x .number) (map (λ (y : Stream). y .number) chosen)
 
+-- That can be decided.
 abbrev pub served : (chosen : List Stream) (x : Stream) → Dec (Served chosen x)
 served chosen x = decMem ℕ-discrete (x .number) (map (λ (y : Stream). y .number) chosen)
 
--- 01: "each stream served passes to its next packet".
+-- A stream that is served at its next packet, another as it is.
 abbrev pub passed : List Stream → Stream → Stream
 passed chosen x = ite (served chosen x) (next x) x
 
--- The table after a round at s.
+-- Annex 5.6: the table after a round at s: each stream in the slots at its next packet, the others as they are.
 unfoldable pub after-round : ℕ → ℕ → List Stream → List Stream
 after-round b s ss = map (passed (slots b s ss)) ss

@@ -9,23 +9,24 @@ use Rattle.table.specs.Table.{records-of, record-at}
 use Rattle.table.specs.declared.Record.{Record}
 use Rattle.table.specs.declared.Table.{Table}
 
--- A record of the table has the id.
+-- Annex 7.13: a record of the table has the id.
 abbrev pub HasId : ℕ → List Record → Type 0
 HasId id rs = List·Mem id (map (λ (r : Record). r .id) rs)
 
+-- That can be decided.
 abbrev pub decide-id : (id : ℕ) (rs : List Record) → Dec (HasId id rs)
 decide-id id rs = decMem ℕ-discrete id (map (λ (r : Record). r .id) rs)
 
--- The table with a record put at its place by ascending id.
+-- Annex 7.20: the table with a record put at its place by ascending id: before the first one with a larger id, or at the end.
 unfoldable pub put-by-id : Record → List Record → List Record
 put-by-id x [] = x ∷ []
 put-by-id x (y ∷ ys) = ite (decLt (x .id) (y .id)) (x ∷ y ∷ ys) (y ∷ put-by-id x ys)
 
--- The table without the record of an id.
+-- Annex 7.23: the table without any record of the id; the others stay, in their order.
 unfoldable pub without-id : ℕ → List Record → List Record
 without-id id rs = filter (λ (r : Record). Dec·not (ℕ-discrete (r .id) id)) rs
 
--- A record at its stream's next packet: released a period later.
+-- Annex 5.6: a record at its stream's next packet: the release is larger by P, and nothing else changes.
 abbrev pub sent : Record → Record
 sent r = record { id = r .id; period = r .period; deadline = r .deadline; release = r .release + r .period }
 
@@ -37,7 +38,7 @@ stepped id r = ite (ℕ-discrete (r .id) id) (sent r) r
 unfoldable pub serve : ℕ → List Record → List Record
 serve id rs = map (stepped id) rs
 
--- Ids rise along the table.
+-- Annex 3.3: ids rise along the table, so that no two are equal.
 abbrev pub Ascending : List Record → Type 0
 Ascending rs = Pairwise (λ (x y : Record). x .id < y .id) rs
 

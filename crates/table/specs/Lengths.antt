@@ -106,7 +106,7 @@ pub record IsAdvance (periods times : List ℕ) (n t : ℕ) (later : List ℕ) (
   pub few : r ≤ n
   pub size : length later ≡ length times
 
--- 02 (iv): at length t the sums carried are the rules' own, the demand and the busy length's W(t), and in each stream's place stand the next
+-- Annex 12.19: at length t the sums carried are the rules' own, the demand and the busy length's W(t), and in each stream's place stand the next
 -- deadline and the next release, which they do not count yet. That they are few keeps them within 32 bits.
 pub record AreSums (table : Table) (t : ℕ) (dues releases : List ℕ) (sums : Sums) : Type 0 where
   pub demand-is : sums .demand ≡ demand (streams-of table) t
@@ -115,7 +115,7 @@ pub record AreSums (table : Table) (t : ℕ) (dues releases : List ℕ) (sums : 
   pub next-releases : AreNext (λ s. 1) table t releases
   pub few : (sums .demand ≤ places * t) × (sums .most ≤ places * t)
 
--- What carrying the sums to length t relies on: they are the rules' at the length before.
+-- Annex 12.19: what carrying the sums to a length t, 1 to 5,040, relies on: they are the rules' at the length before, and the streams are well formed.
 pub record CanCarry (table : Table) (periods dues releases : List ℕ) (t : ℕ) (before : Sums) : Type 0 where
   pub has : HasPeriods table periods
   pub formed : AllWellFormed (streams-of table)

@@ -8,7 +8,7 @@ use mir.Syntax.{floatAdd, floatSub, floatMul, floatDiv, floatRem, floatEq, float
 use mir.Syntax.{unsigned, Place, Opd, Rv, rvOpd, op2, op1, addrOf, aggregate, repeat}
 use mir.Syntax.{Name, Fn, Body, skip, seq, assign, block, loop, cond, switch, exit, return, call, Arms, arm, default, noDefault}
 
--- The functions that a loop over lengths may call, and they each other: each of them is held to the same in its own proof file.
+-- Annex 12.20: the functions that a loop over lengths may call, and they each other: each of them is held to the same in its own proof file.
 unfoldable pub in-loops : List Name
 in-loops =
     "table::lengths::sums_at"
@@ -108,11 +108,11 @@ unfoldable mutual
   loops-of-arms-never-divide (default b) = loops-never-divide b
   loops-of-arms-never-divide noDefault = true
 
--- 02 (iv): a function neither divides nor takes a remainder, nor calls one that is not held to the same, ..
+-- Annex 12.20: a function neither divides nor takes a remainder, nor calls one that is not held to the same, ..
 abbrev pub NeverDivides : Fn → Type 0
 NeverDivides f = So (never-divides (f .body))
 
--- .. or so it is in its loops.
+-- Annex 12.20: .. or so it is in its loops, whatever stands outside of them.
 abbrev pub LoopsNeverDivide : Fn → Type 0
 LoopsNeverDivide f = So (loops-never-divide (f .body))
 

@@ -12,18 +12,20 @@ pub record IsPlaceBefore (table : Table) (id r : ℕ) : Type 0 where
   pub earlier : (k : ℕ) → k < r → record-at table k .id ≤ id
   pub later : r < table .count → id < record-at table r .id
 
--- The list with a record put at a place, and the list with the record of a place taken out.
+-- The list with a record put at a place ..
 abbrev pub opened : ℕ → Record → List Record → List Record
 opened place x rs = take place rs ++ x ∷ drop place rs
 
+-- .. and the list with the record of a place taken out.
 abbrev pub closed : ℕ → List Record → List Record
 closed place rs = take place rs ++ drop (suc place) rs
 
--- What opening a place relies on, and what closing one does.
+-- What opening a place relies on ..
 pub record CanOpen (table : Table) (place : ℕ) : Type 0 where
   pub room : table .count < 64
   pub within : place ≤ table .count
 
+-- .. and what closing one does.
 pub record CanClose (table : Table) (place : ℕ) : Type 0 where
   pub count : table .count ≤ 64
   pub within : place < table .count

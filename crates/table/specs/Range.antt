@@ -1,4 +1,4 @@
--- When the records of a table are in range, and near now: (a) and (b) of document 01, as far as they speak of streams.
+-- When the records of a table are in range, and near now.
 use mathlib.Core.List.{List, List·Mem}
 use Prim.Native.Nat.{ℕ, _+_, _≤_, _<_, _∣_}
 use Rattle.basics.specs.Limits.{places, largest-id}
@@ -7,19 +7,19 @@ use Rattle.table.specs.Changes.{Ascending}
 use Rattle.table.specs.declared.Record.{Record}
 use Rattle.table.specs.declared.Table.{Table}
 
--- 01: "Ids are 1 to 32,767", "P is 1 to 240 and divides F; D is 1 to P".
+-- Annex 3.7: a record is in range: its id is 1 to 32,767, its P is 1 to 240 and divides F, and its D is 1 to P.
 pub record RecordInRange (frame : ℕ) (r : Record) : Type 0 where
   pub id : (1 ≤ r .id) × (r .id ≤ largest-id)
   pub period : (1 ≤ r .period) × (r .period ≤ 240)
   pub divides : r .period ∣ frame
   pub deadline : (1 ≤ r .deadline) × (r .deadline ≤ r .period)
 
--- 01 (a): "all values are in range, each P divides F and ids differ". They stand in ascending order.
+-- Annex 3.7: each record is in range, and the ids rise from record to record.
 pub record RecordsInRange (frame : ℕ) (rs : List Record) : Type 0 where
   pub each : (r : Record) → List·Mem r rs → RecordInRange frame r
   pub ascending : Ascending rs
 
--- 01 (b): "each unserved packet held is due after now and released no later than now + 239".
+-- Annex 3.8: each record's unserved packet is due after now, and released at now + 239 or earlier.
 pub record AreNear (now : ℕ) (rs : List Record) : Type 0 where
   pub due-after : (r : Record) → List·Mem r rs → now < due-of r
   pub released : (r : Record) → List·Mem r rs → r .release ≤ now + 239

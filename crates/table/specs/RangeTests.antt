@@ -8,7 +8,7 @@ use Rattle.table.specs.declared.Record.{Record}
 abbrev pub OneTo : ℕ → ℕ → Type 0
 OneTo most n = (1 ≤ n) × (n ≤ most)
 
--- 01 (b), of one record: its unserved packet is due after now ..
+-- Of one record: its unserved packet is due after now ..
 abbrev pub DueAfterNow : ℕ → Record → Type 0
 DueAfterNow now r = now < due-of r
 
@@ -16,6 +16,7 @@ DueAfterNow now r = now < due-of r
 abbrev pub ReleasedSoon : ℕ → Record → Type 0
 ReleasedSoon now r = r .release ≤ now + 239
 
+-- One record is near now: both.
 abbrev pub IsNear : ℕ → Record → Type 0
 IsNear now r = DueAfterNow now r × ReleasedSoon now r
 

@@ -10,11 +10,11 @@ use Rattle.table.specs.declared.Table.{Table}
 use Rattle.table.specs.declared.Column.{Column}
 use Rattle.table.specs.declared.Column.the-variants.{Period, Deadline, Due, Release}
 
--- The records are those in the first `count` places; the other places do not count.
+-- Annex 3.2: the records are those in the first `count` places; the other places do not count.
 abbrev pub records-of : Table → List Record
 records-of t = take (t .count) (t .streams)
 
--- A record as the rules see it: a stream whose number is its id.
+-- Annex 3.2: a record as the rules see it: the stream whose number is its id, with its P, its D and its release.
 abbrev pub stream-of : Record → Stream
 stream-of r = record { number = r .id; period = r .period; deadline = r .deadline; release = r .release }
 

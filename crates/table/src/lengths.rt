@@ -66,8 +66,8 @@ struct Sums {
     most: u32,
 }
 
-// The sums at t, from those at the length before: each deadline and each release that comes at t is added. The table is there for the
-// contract to name; of it only the count is read, and in compiled code nothing else is handed over.
+// Annex 12.19: the sums at t, from those at the length before: each deadline and each release that comes at t is added. The table is there
+// for the contract to name; of it only the count is read, and in compiled code nothing else is handed over.
 fn sums_at(
     table: Table,
     periods: &[u16; 64],

@@ -18,7 +18,7 @@ mod lengths;
 mod range;
 mod start;
 
-// A stream's record, with the release of its first unserved packet.
+// Annex 3.2: a stream's record: its id, P and D, and the release of its first unserved packet.
 #[repr(C)]
 pub struct Record {
     pub id: u32,

@@ -120,7 +120,7 @@ module _ (p : Planner) (buffer : List ℕ) where
         in-time not-late = omega arith
 
 module _ (h : Content) (empty : h .table ≡ []) where
-  -- with no stream the lazy rule is left with the cap ..
+  -- Annex 4.14: with no stream the lazy rule is left with the cap ..
   pub empty-start : ContentSound h → IsStart h (cap-of h)
   unfolding future
   empty-start sound =

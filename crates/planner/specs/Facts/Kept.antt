@@ -64,7 +64,7 @@ with-last-in-range range s by-last =
     record { slots = range .slots; frame = range .frame; gap = range .gap; last = by-last; at-most = range .at-most; records = range .records }
 
 module _ (h : Content) (sound : ContentSound h) where
-  -- the start is not before now
+  -- Annex 4.8: the start is not before now
   pub start-from-now : (s : ℕ) → IsStart h s → now-of h ≤ s
   start-from-now s lazy =
       fits-lazy (slots-of h) (cap-of h) (streams-in h) (sound .in-range .slots .0) s lazy (now-of h) (omega (arith, sound .in-range .gap)) (fits-now h sound)
@@ -113,7 +113,7 @@ module _ (h : Content) (sound : ContentSound h) where
       was : (s : Record) → List·Mem s (removed h id .table) → List·Mem s (h .table)
       was s m = in-without-id id (h .table) s .0 m .0
 
-  -- after a round the rules see the streams after the round
+  -- Annex 5.6: what the rules see of the records after a round is their table after it
   pub rounded-streams : (s : ℕ) → streams-in (rounded h s) ≡ after-round (slots-of h) s (streams-in h)
   unfolding after-round
   rounded-streams s =

@@ -50,7 +50,7 @@ opened-sound s numbers =
 pub with-empty-queue : (s : Setting) (q : Queue) → q ≡ empty-queue → IsFresh s (fresh-with s q)
 with-empty-queue s q is = record { whole = rw is; holds = refl }
 
--- 01: "A successful open gives a sound planner."
+-- a fresh planner with its numbers in range is sound
 pub fresh-is-sound : (s : Setting) → NumbersInRange s → (p : Planner) → IsFresh s p → Sound p
 fresh-is-sound s numbers p is =
     subst⁻¹ Sound (is .whole)
@@ -64,7 +64,7 @@ fresh-is-sound s numbers p is =
       );
     })
 
--- 01: "It is not sound", of the closed planner.
+-- Annex 3.12: the closed planner is not sound, since its B is 0
 pub closed-is-not-sound : (p : Planner) → IsFresh zeros p → Sound p → ⊥
 closed-is-not-sound p fresh sound = lt-irrefl 0 (subst (λ (h : Content). 1 ≤ h .slots) (fresh .holds) (sound .content-sound .in-range .slots .0))
 
@@ -86,6 +86,6 @@ open-in-range s none =
     not-late : (n : ℕ) → (1_000_000_000 < n → ⊥) → n ≤ 1_000_000_000
     not-late n early = omega arith
 
--- 01: "A successful open gives a sound planner", said of what open answers and hands back.
+-- Annex 7.9: the planner that a successful open hands back is sound
 pub open-success-is-sound : (s : Setting) (r : Changed) → IsOpened s r → r .answer ≡ 0 → Sound (r .planner)
 open-success-is-sound s r is zero = let none = sym (is .answer) ∙ zero in fresh-is-sound s (open-in-range s none) (r .planner) (is .opened none)

@@ -40,7 +40,7 @@ demand-window ss all t T =
     rw (demand-at-zero ss (t + T), demand-at-zero ss t, most-in-at-zero ss T) at (future-window (map at-zero ss) (at-zero-well-formed ss all) t T)
 
 module _ (b T : ℕ) (ss : List Stream) (all : AllWellFormed ss) (busy : IsBusy b ss T) where
-  -- the demand rule on 1 .. T is the demand rule
+  -- Annex 4.10: with a busy length T, the demand rule for the lengths 1 to T is the demand rule
   pub busy-settles-demand : ((t : ℕ) → 1 ≤ t → t ≤ T → demand ss t ≤ b * t) → DemandRule b ss
   busy-settles-demand near t some =
       let plain : t - 0 ≡ t = omega arith in
@@ -51,7 +51,7 @@ module _ (b T : ℕ) (ss : List Stream) (all : AllWellFormed ss) (busy : IsBusy 
   pub busy-growth : (t : ℕ) → future ss (t + T) ≤ future ss t + b * T
   busy-growth t = omega (arith, future-window ss all t T, busy .1)
 
-  -- with every due time from `from` on, the start rule at x is settled by the T lengths from there on
+  -- Annex 4.11: with x at most `from` and no due time before `from`: where h(t) ≤ b × (t - x) for the T times from there on, it is so for every t
   pub busy-settles-start : (x from : ℕ) → x ≤ from → ((s : Stream) → List·Mem s ss → from ≤ due s)
       → ((t : ℕ) → from ≤ t → t < from + T → future ss t ≤ b * (t - x)) → Fits b x ss
   busy-settles-start x from before late near t = go (decLt t from)
@@ -75,7 +75,7 @@ module _ (F : ℕ) (positive : 1 ≤ F) where
   most-in-frame (s ∷ ss) all divide =
       rw (periods-in (s .period) (s .deadline) (first-of all .0) (first-of all .1) (first-of divide), most-in-frame ss (rest-of all) (rest-of divide))
 
-  -- F is a busy length, or the demand rule fails at F
+  -- Annex 4.10: with each P dividing F, F is a busy length, or the demand rule fails at F
   pub frame-busy : (b : ℕ) (ss : List Stream) → AllWellFormed ss → ((s : Stream) → List·Mem s ss → s .period ∣ F)
       → IsBusy b ss F ⊎ (b * F < demand ss F)
   frame-busy b ss all divide = go (decLe (most-in ss F) (b * F))
@@ -84,7 +84,7 @@ module _ (F : ℕ) (positive : 1 ≤ F) where
       go (yes fits) = inl (positive, fits)
       go (no over) = inr (omega (arith, most-in-frame ss all divide))
 
-  -- so under the demand rule F is a busy length
+  -- Annex 4.11: so under the demand rule F is a busy length
   pub frame-busy-under-rule : (b : ℕ) (ss : List Stream) → AllWellFormed ss → ((s : Stream) → List·Mem s ss → s .period ∣ F)
       → DemandRule b ss → IsBusy b ss F
   frame-busy-under-rule b ss all divide rule = (positive, rw (most-in-frame ss all divide) (rule F positive))

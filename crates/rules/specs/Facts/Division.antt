@@ -54,7 +54,7 @@ module _ (p : ℕ) (positive : 1 ≤ p) where
   pub packets-mono : (d t t′ : ℕ) → t ≤ t′ → packets-by p d t ≤ packets-by p d t′
   packets-mono d t t′ le = rw (packets-quotient d t, packets-quotient d t′) (div-mono p positive (omega arith))
 
-  -- 01 has no name for it: any T units hold at most ⌈T/P⌉ due times of a stream
+  -- any T units hold at most ⌈T/P⌉ due times of a stream
   pub window : (d t T : ℕ) → packets-by p d (t + T) ≤ packets-by p d t + ceil T p
   window d t T =
       let few : t + T + p - d < ((t + p - d) / p + ceil T p + 1) * p = omega (arith, lt-div-mul-add {a = t + p - d} positive, ceil-enough T p positive) in

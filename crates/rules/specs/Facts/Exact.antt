@@ -70,7 +70,7 @@ module _ (b now : ℕ) (ss : List Stream) (positive : 1 ≤ b) (ready : IsReady 
         lazy-serves b 1 positive (omega arith) every-moment moment-ready (λ k. now + k) moments-are-lazy,
       ) ∣₁
 
--- 01: "where it holds, the second fails exactly if no plan from now serves the planner's table". Every unserved packet has to be due after
+-- Where the demand rule holds, the start rule fails exactly if no plan from now serves the table. Every unserved packet has to be due after
 -- now: with B = 2 and one stream of P = D = 1 due at now, h(t) = t - now + 1 ≤ 2 × (t - now) for all t > now, and no plan from now serves it.
 module _ (b now : ℕ) (ss : List Stream) (positive : 1 ≤ b) (table : IsTable ss) (rule : DemandRule b ss) (later : DueAfter now ss) where
   pub start-exact : StartRule b now ss ↔ Servable b now ss
@@ -95,7 +95,7 @@ module _ (ss : List Stream) (table : IsTable ss) where
   demand-stays [] t = refl
   demand-stays (x ∷ xs) t = rw (demand-stays xs t)
 
-  -- 01: "the first fails exactly if no plan serves the table with every start and the moment at 0"
+  -- the demand rule fails exactly if no plan from 0 serves the table with every unserved packet released at 0
   module _ (b : ℕ) (positive : 1 ≤ b) where
     pub demand-exact : DemandRule b ss ↔ Servable b 0 (map at-zero ss)
     demand-exact = (

@@ -1,4 +1,4 @@
--- The worked examples of document 01, computed by the checker: the three rounds, and the tables on the edge; and ties of document 02 (ii).
+-- Worked examples, computed by the checker: three rounds, tables on the edge, and ties.
 use mathlib.Core.Path.{_≡_, refl}
 use mathlib.Core.Bool.{So}
 use mathlib.Core.Logic.{Dec·and}
@@ -20,7 +20,7 @@ use Rattle.rules.specs.Facts.Tests.{is-table, is-busy, keeps-demand, is-
 unfoldable pub stream : ℕ → ℕ → ℕ → ℕ → Stream
 stream number s p d = record { number = number; period = p; deadline = d; release = s }
 
--- The state of a planner opened at T with gap G, with these streams. The cap is L + 1 + G, by 02 (v).
+-- The state of a planner opened at T with gap G, with these streams. The cap is L + 1 + G.
 unfoldable pub opened : ℕ → ℕ → List Stream → State
 unfolding stream
 opened T G ss = record { now = T + 1; cap = T + 1 + G; table = ss }
@@ -49,12 +49,12 @@ lazy-from b G T st positive tested open-cap =
     (record { ready = tested-ready b (st .now) T (st .table) tested; open-cap = open-cap })
     (is-ready-busy b (st .now) T (st .table) tested)
 
--- 01: O,2,6,6,0 / A,1,1,3,2 / A,2,1,6,6 / A,3,2,6,5
+-- The planner after the commands O,2,6,6,0 / A,1,1,3,2 / A,2,1,6,6 / A,3,2,6,5.
 unfoldable pub three-streams : State
 unfolding opened
 three-streams = opened 0 6 (stream 1 1 3 2 ∷ stream 2 1 6 6 ∷ stream 3 2 6 5 ∷ [])
 
--- 01: R,0,2,2,1,2 / R,0,5,2,1,3 / R,0,8,2,1,2
+-- Its rounds are R,0,2,2,1,2 / R,0,5,2,1,3 / R,0,8,2,1,2.
 pub three-rounds : map (line 2 6 2 three-streams) (0 ∷ 1 ∷ 2 ∷ [])
     ≡ record { start = 2; numbers = 1 ∷ 2 ∷ [] } ∷ record { start = 5; numbers = 1 ∷ 3 ∷ [] } ∷ record { start = 8; numbers = 1 ∷ 2 ∷ [] } ∷ []
 unfolding three-streams line
@@ -64,7 +64,7 @@ pub three-rounds-lazy : ListsLazyRun 2 6 2 three-streams
 unfolding three-streams is-ready
 three-rounds-lazy = lazy-from 2 6 2 three-streams (omega arith) refl (omega arith)
 
--- 01: "B=1, F=2, G=9, T=0: stream 1 (1,2,1) goes in; 2 (2,2,1) gets 12."
+-- With B = 1, F = 2, G = 9 and T = 0 stream 1 with S, P, D = 1, 2, 1 goes in, and stream 2 with 2, 2, 1 gets 12.
 pub first-fits : DemandRule 1 (stream 1 1 2 1 ∷ [])
 unfolding stream is-table is-busy keeps-demand
 first-fits = tested-demand 1 2 (stream 1 1 2 1 ∷ []) refl refl refl
@@ -73,7 +73,7 @@ pub second-breaks-demand : DemandRule 1 (stream 1 1 2 1 ∷ stream 2 2 2 1 ∷ [
 unfolding stream demand packets-by decLe
 second-breaks-demand rule = lt-irrefl 1 (rule 1 (omega arith))
 
--- 01: "B=1, F=10, G=20, T=0, streams 1 and 2 both (1,10,10): round at 9 sends 1."
+-- With B = 1, F = 10, G = 20 and T = 0, and streams 1 and 2 both with 1, 10, 10, the round at 9 sends 1.
 unfoldable pub two-alike : State
 unfolding opened
 two-alike = opened 0 20 (stream 1 1 10 10 ∷ stream 2 1 10 10 ∷ [])
@@ -87,7 +87,7 @@ unfoldable pub one-sent : List Stream
 unfolding two-alike after-round slots in-order put-in-order goes-before riders Dec·and ℕ-discrete
 one-sent = after-round 1 9 (two-alike .table)
 
--- 01: "Then 3 as (10,10,1) gets 13": the demand rule holds and the start rule does not.
+-- Then stream 3 with 10, 10, 1 gets 13: the demand rule holds and the start rule does not.
 pub third-keeps-demand : DemandRule 1 (one-sent ++ (stream 3 10 10 1 ∷ []))
 unfolding one-sent is-table is-busy keeps-demand
 third-keeps-demand = tested-demand 1 3 (one-sent ++ (stream 3 10 10 1 ∷ [])) refl refl refl
@@ -96,12 +96,12 @@ pub third-breaks-start : StartRule 1 10 (one-sent ++ (stream 3 10 10 1 ∷ [])) 
 unfolding one-sent future packets-by decLe
 third-breaks-start rule = lt-irrefl 1 (rule 11 (omega arith))
 
--- 01: "as (11,10,1) 0": one unit later both rules hold.
+-- With 11, 10, 1 it gets 0: one unit later both rules hold.
 pub third-fits-later : IsReady 1 10 (one-sent ++ (stream 3 11 10 1 ∷ []))
 unfolding one-sent is-ready
 third-fits-later = tested-ready 1 10 3 (one-sent ++ (stream 3 11 10 1 ∷ [])) refl
 
--- 02 (ii): streams that are all due at 9, the larger ids released earlier.
+-- Streams that are all due at 9, the larger ids released earlier.
 unfoldable pub due-together : State
 unfolding opened
 due-together = opened 0 20 (stream 1 5 12 4 ∷ stream 2 3 12 6 ∷ stream 3 1 12 8 ∷ [])
@@ -131,7 +131,7 @@ pub by-number : map (line 1 20 3 three-alike) (0 ∷ 1 ∷ 2 ∷ [])
 unfolding three-alike line
 by-number = refl
 
--- 01: "B=1, F=240, G=20, T=0, one (1,240,240)": by 02 (v) rounds at 21 with it, then 42 with no slot.
+-- With B = 1, F = 240, G = 20 and T = 0, and one stream with 1, 240, 240: rounds at 21, with it, and at 42, with no slot.
 unfoldable pub long-period : State
 unfolding opened
 long-period = opened 0 20 (stream 1 1 240 240 ∷ [])
@@ -144,7 +144,7 @@ pub long-period-lazy : ListsLazyRun 1 20 1 long-period
 unfolding long-period is-ready
 long-period-lazy = lazy-from 1 20 1 long-period (omega arith) refl (omega arith)
 
--- 01: "T=999,999,999, B=1, F=1, G=1, one (1,000,000,000,1,1): a round, then 17": the next start is past 1,000,000,000.
+-- With T = 999,999,999, B = 1, F = 1 and G = 1, and one stream with 1,000,000,000, 1, 1: a round, then 17, since the next start is past 1,000,000,000.
 unfoldable pub clock-end : State
 unfolding opened
 clock-end = opened 999_999_999 1 (stream 1 1_000_000_000 1 1 ∷ [])
@@ -164,7 +164,8 @@ unfolding stream
 alike zero number s p d = []
 alike (suc count) number s p d = stream number s p d ∷ alike count (number + 1) s p d
 
--- 01: "B=5, F=100, G=20, T=0, nine of (8,4,3), then seven of (1,25,2): the first fifteen go in, the sixteenth gets 12" (document 004, figure 9).
+-- With B = 5, F = 100, G = 20 and T = 0, nine streams with 8, 4, 3 and then seven with 1, 25, 2: the first fifteen go in, and the sixteenth gets 12
+-- (the Blink paper, figure 9).
 pub fifteen-fit : IsReady 5 1 (alike 9 1 8 4 3 ++ alike 6 10 1 25 2)
 unfolding alike is-ready
 fifteen-fit = tested-ready 5 1 3 (alike 9 1 8 4 3 ++ alike 6 10 1 25 2) refl

@@ -24,11 +24,12 @@ module _ (b cap : ℕ) (ss : List Stream) where
       go (inl e) = rw e (lazy .by-cap)
       go (inr w) = omega (arith, w .2, lazy .by-demand (w .0) (w .1))
 
+  -- Annex 4.8: there is no second lazy start
   pub lazy-unique : (x y : ℕ) → IsLazyStart b cap ss x → IsLazyStart b cap ss y → x ≡ y
   lazy-unique x y lazy other = le-antisymm (at-most x y lazy other) (at-most y x other lazy)
 
   module _ (positive : 1 ≤ b) (s : ℕ) (lazy : IsLazyStart b cap ss s) where
-    -- at the lazy start everything fits ..
+    -- Annex 5.5: at the lazy start everything fits, so every unserved packet is due after it ..
     pub lazy-fits : Fits b s ss
     lazy-fits t = go (decLt 0 (future ss t))
       where
@@ -148,7 +149,7 @@ module _ (b cap : ℕ) (ss : List Stream) where
           go (inl e) = inl e
           go (inr w) = at (first + w .0) (w .1) (decLt 0 (future ss (first + w .0)))
 
-      -- what is found in the T lengths from the first due time on is the least over all t
+      -- Annex 4.12: where all fits at some x and T is a busy length, the least of the cap and of the T times from the first due time on is the lazy start
       pub lazy-start-is-lazy : IsLazyStart b cap ss (lazy-start b cap ss first T)
       unfolding start lazy-start
       lazy-start-is-lazy = record { one-of-them = one-of-them; by-cap = least-by-cap (latest b cap ss) cap first T; by-demand = by-demand }

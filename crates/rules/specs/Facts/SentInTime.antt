@@ -18,7 +18,7 @@ use Rattle.rules.specs.Facts.RoundKept.{ready-fits, round-kept, round-ch
 use Rattle.rules.specs.Facts.Packets.{packet-due-after, packet-was, sent-or-left}
 
 module _ (b gap : ℕ) (positive : 1 ≤ b) (gap-positive : 1 ≤ gap) where
-  -- the lazy start of a ready state is never before now
+  -- Annex 4.8: the lazy start of a ready state is never before now
   pub lazy-from-now : (st : State) → IsReadyState b st → (s : ℕ) → IsLazyStart b (st .cap) (st .table) s → st .now ≤ s
   lazy-from-now st is-ready s lazy =
       fits-lazy b (st .cap) (st .table) positive s lazy (st .now) (is-ready .open-cap) (ready-fits b (st .now) (st .table) (is-ready .ready))

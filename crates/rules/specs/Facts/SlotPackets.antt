@@ -46,13 +46,13 @@ module _ (b s : ℕ) (ss : List Stream) where
           (λ p m. Or·elim List·Mem-prop (eq-or-mem-of-mem-cons m) (λ same. subst (λ (x : Packet). List·Mem x qs) (sym same) here) (back left p)) in
           absurd (omega (arith, more, those .full q (these .ride q here) left, these .few))
 
-  -- there is only one list of slots
+  -- Annex 5.4: there is no second list of slots
   pub slots-unique : (qs rs : List Packet) → IsSlots b s ss qs → IsSlots b s ss rs → qs ≡ rs
   slots-unique qs rs these those =
       sorted-unique (hedberg packet-discrete) ComesBefore before-asym qs rs (these .ordered) (those .ordered)
       (inside qs rs these those) (inside rs qs those these)
 
-  -- a packet that may ride and is not served waits no longer than every served packet of its due time: it was released no earlier
+  -- Annex 12.15: a rider that gets no slot has waited no longer than any packet of its due time that gets one: it was released no earlier
   pub among-equals-longest-first : (qs : List Packet) → IsSlots b s ss qs → (served left : Packet) → List·Mem served qs → IsRider s ss left
       → (List·Mem left qs → ⊥) → served .due ≡ left .due → served .release ≤ left .release
   among-equals-longest-first qs is served left here rides out same = go (then-rest same (is .first served left here rides out))
@@ -62,7 +62,7 @@ module _ (b s : ℕ) (ss : List Stream) where
       go (inr tie) = omega (arith, tie .0)
 
 module _ (s : ℕ) (ss : List Stream) (table : IsTable ss) (later : DueAfter s ss) where
-  -- packet 1 is released no earlier than packet 0 is due
+  -- Annex 5.5: with all unserved packets due after s, no other may ride at s: packet 1 is released no earlier than packet 0 is due
   pub only-first-rides : (x : Stream) → List·Mem x ss → (k : ℕ) → MayRide (packet x k) s → k ≡ 0
   only-first-rides x m zero rides = refl
   only-first-rides x m (suc k) rides =
@@ -85,7 +85,7 @@ module _ (s : ℕ) (ss : List Stream) (table : IsTable ss) (later : DueAfter s s
   as-packets x y (inr (a, inl b)) = inr (omega (arith, a), inl (omega arith))
   as-packets x y (inr (a, inr b)) = inr (omega (arith, a), inr (omega (arith, b .0), b .1))
 
-  -- and the slots are the first b of them
+  -- Annex 5.5: and the first b of them are the slots, as `slots` finds them by the unserved packets alone
   pub slots-are-first : (b : ℕ) → IsSlots b s ss (map (λ (x : Stream). packet x 0) (slots b s ss))
   unfolding slots
   slots-are-first b =

@@ -105,7 +105,7 @@ busy-length-in-range-spec =
     loop-again
     returns-3)
 
--- the loop over lengths: no division, no remainder, and no call but of functions of which the same is proved
+-- Annex 12.20: in the loop over lengths no division, no remainder, and no call but of functions of which the same is proved
 pub no-division : LoopsNeverDivide code.function
 unfolding loops-never-divide
 no-division = refl

@@ -142,7 +142,7 @@ start-from-spec =
     loop-again
     returns-2)
 
--- the loop over lengths: no division, no remainder, and no call but of functions of which the same is proved
+-- Annex 12.20: in the loop over lengths no division, no remainder, and no call but of functions of which the same is proved
 pub no-division : LoopsNeverDivide code.function
 unfolding loops-never-divide
 no-division = refl

@@ -1,4 +1,4 @@
-// The command program over the unstarred cases of document 01 and the edges of its grammar. The expected output is written by hand.
+// The command program over the Blink paper's figure 9 as a script, and the edges of the grammar and of the calls. The expected output is written by hand.
 fn main() {
     console::run();
 }

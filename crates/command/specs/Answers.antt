@@ -1,4 +1,4 @@
--- What the planner answers to a command, as document 01 says it under "The command program".
+-- What the planner answers to a command: Annex, chapter 11. Letters are bytes: O is 79, A 65, D 68, R 82, E 69.
 use mathlib.Core.Path.{_≡_}
 use mathlib.Core.List.{List, [], _∷_}
 use Prim.Native.Nat.{ℕ, _≤_}
@@ -13,30 +13,32 @@ use Rattle.command.specs.declared.Command.{Command}
 use Rattle.command.specs.declared.Command.the-variants.{Open, Add, Remove, Round, Malformed}
 use Rattle.command.specs.declared.answers.Answered.{Answered}
 
--- This planner, and a line of this letter and these numbers.
+-- Annex 11.20: an answer leaves this planner, and is a line of this letter and these numbers, at most 68 of them.
 pub record Gives (p : Planner) (l : ℕ) (ns : List ℕ) (r : Answered) : Type 0 where
   pub planner : r .planner ≡ p
   pub letter : r .letter ≡ l
   pub numbers : take (r .numbers .count) (r .numbers .values) ≡ ns
   pub few : r .numbers .count ≤ 68
 
--- 01: "Fields: letter, (id), answer". Letters are bytes: O is 79, A 65, D 68, R 82, E 69.
+-- Annex 11.12, 11.13: O is open, whatever was open before: the planner is the one that open hands back, and the line `O,` and its number.
 pub record IsOpenGiven (s : Setting) (r : Answered) : Type 0 where
   pub done : Changed
   pub by-contract : IsOpened s done
   pub given : Gives (done .planner) 79 (done .answer ∷ []) r
 
+-- Annex 11.14, 11.16: A is add: the planner is the one that add hands back, and the line `A,`, the id as it was read, and the number.
 pub record IsAddGiven (p : Planner) (o : Offer) (r : Answered) : Type 0 where
   pub done : Changed
   pub by-contract : IsAdd p o done
   pub given : Gives (done .planner) 65 (o .id ∷ done .answer ∷ []) r
 
+-- Annex 11.15, 11.16: D is remove: the planner is the one that remove hands back, and the line `D,`, the id as it was read, and the number.
 pub record IsRemoveGiven (p : Planner) (id : ℕ) (r : Answered) : Type 0 where
   pub done : Changed
   pub by-contract : IsRemove p id done
   pub given : Gives (done .planner) 68 (id ∷ done .answer ∷ []) r
 
--- 01: "then for R start, n and n ids. A refused R is R and its number." The round has a buffer of 64 places.
+-- Annex 11.17, 11.18, 11.19: R is round, with a buffer of 64 places: held, the line is `R,0,`, start, n and the n ids; refused, `R,` and its number.
 pub record IsRoundGiven (p : Planner) (r : Answered) : Type 0 where
   pub done : Rounded
   pub before : List ℕ
@@ -46,7 +48,7 @@ pub record IsRoundGiven (p : Planner) (r : Answered) : Type 0 where
   pub held : done .answer ≡ 0 → Gives (done .planner) 82 (0 ∷ done .start ∷ done .n ∷ take (done .n) after) r
   pub refused : (done .answer ≡ 0 → ⊥) → Gives (done .planner) 82 (done .answer ∷ []) r
 
--- 01: "Any other line .. prints E,20 and its line number from 1." The planner stays.
+-- Annex 11.13, 11.20: what is answered to each command by this planner; to a malformed line `E,20,` and its number, and the planner stays.
 abbrev pub IsAnswered : Planner → ℕ → Command → Answered → Type 0
 IsAnswered p number (Open b f g t) r = IsOpenGiven (setting b f g t) r
 IsAnswered p number (Add id start period deadline) r = IsAddGiven p (offer id start period deadline) r

@@ -1,14 +1,14 @@
--- Lines cut from a piece of input, one after the other. 01: "Lines end in LF", which is byte 10.
+-- Lines cut from a piece of input, one after the other, each ended by LF, which is byte 10.
 use mathlib.Core.Path.{_≡_}
 use mathlib.Core.List.{List}
 use Prim.Native.Nat.{ℕ, _≤_, _<_}
 use lib.ListN.{length, getD}
 
--- No byte from `from` to i ends a line.
+-- Annex 11.1: no byte from `from` on and before i ends a line: none is 10.
 abbrev pub NoEnd : List ℕ → ℕ → ℕ → Type 0
 NoEnd bytes from i = (k : ℕ) → from ≤ k → k < i → getD bytes k 0 ≡ 10 → ⊥
 
--- r is the place of the first byte 10 from `from` on, or the length where there is none.
+-- Annex 11.1: a line from `from` on ends at r, the place of the first byte 10 from there, or the length where there is none.
 pub record IsLineEnd (bytes : List ℕ) (from r : ℕ) : Type 0 where
   pub after : from ≤ r
   pub within : r ≤ length bytes

@@ -12,7 +12,7 @@ pub record IsPut (P : List ℕ → Type 0) (before after : List ℕ) (at r : ℕ
   pub ends : r ≡ at + length bytes
   pub content : after ≡ take at before ++ (bytes ++ drop r before)
 
--- A line of a letter and numbers, and the byte 10 that ends it.
+-- Annex 11.21: a line of a letter and numbers, and the byte 10 that ends it.
 pub record IsLine (letter : ℕ) (ns bytes : List ℕ) : Type 0 where
   pub line : List ℕ
   pub written : IsWritten letter ns line

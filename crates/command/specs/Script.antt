@@ -6,14 +6,14 @@ use Rattle.planner.specs.Open.{zeros, IsFresh}
 use Rattle.command.specs.Runs.{HasRun, HasRunLast}
 use Rattle.command.specs.declared.lines.Reached.{Reached}
 
--- 01: "Until an O succeeds the planner is closed." No line has been read, and nothing written.
+-- Annex 11.10: where a run begins: the planner is closed, no line has been read, and nothing written.
 pub record IsBeginning (s : Reached) : Type 0 where
   pub closed : IsFresh zeros (s .planner)
   pub number : s .number ≡ 0
   pub from : s .from ≡ 0
   pub end : s .end ≡ 0
 
--- Whole lines, then what is left; r bytes were written. Where the run stopped for want of room, what is left is not taken for a line.
+-- Annex 11.24: whole lines, then what is left; r bytes were written. Where the run stopped for want of room, what is left is not taken for a line.
 pub record IsScript (script before after : List ℕ) (r : ℕ) : Type 0 where
   pub begins : Reached
   pub beginning : IsBeginning begins

@@ -11,7 +11,8 @@ use Rattle.command.specs.declared.Command.{Command}
 use Rattle.command.specs.declared.answers.Answered.{Answered}
 use Rattle.command.specs.declared.step.Step.{Step}
 
--- The line says a command, or none; the planner answers it; the answer is written from `at` on, with its end; all other places stay.
+-- Annex 11.21: the line says a command, or none; the planner answers it; the answer is written from `at` on, with its end, in at most 1,430 bytes; all
+-- other places stay.
 pub record IsStep (p : Planner) (number : ℕ) (line before after : List ℕ) (at : ℕ) (r : Step) : Type 0 where
   pub command : Command
   pub says : Says line command

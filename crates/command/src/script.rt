@@ -15,7 +15,7 @@ fn closed() -> Planner
     planner
 }
 
-// Where every run begins: "Until an O succeeds the planner is closed."
+// Where every run begins: the planner is closed until an O succeeds.
 pub fn beginning() -> Reached
     ensures { λ r. ⌜ IsBeginning r ⌝ }
 {

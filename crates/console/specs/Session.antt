@@ -81,7 +81,7 @@ pub record IsKept (s : Session) (before after : List ℕ) (r : Session) : Type 0
   pub end : r .reached .end ≡ s .reached .end
   pub number : r .reached .number ≡ s .reached .number
 
--- More may be read only where every whole line read so far is answered, and every answer handed over.
+-- Annex 11.23: more may be read only where every whole line read so far is answered, and every answer handed over.
 pub record CanRefill (s : Session) (input : List ℕ) : Type 0 where
   pub can-keep : CanKeep s input
   pub empty : s .reached .end ≡ 0
@@ -104,7 +104,8 @@ pub record IsRefilled (s : Session) (wrote : ℕ) (before after : List ℕ) (t :
   pub number : t .session .reached .number ≡ s .reached .number
   pub at-end : t .ended ≡ true → HasNoEnd (at-hand (t .session) after)
 
--- A turn: what it handed over, the first bytes of the output, are the answers to the next lines; what it was delivered stands behind what was at hand.
+-- Annex 11.23: a turn: what it handed over, the first bytes of the output, are the answers to the next lines, and none is kept back; what it was
+-- delivered stands behind what was at hand.
 pub record IsTurned (s : Session) (before after out : List ℕ) (t : Turn) : Type 0 where
   pub told : (read written : List ℕ) → HasTold read written s before → HasTold (read ++ delivered t after) (written ++ take (t .wrote) out) (t .session) after
   pub bounds : InBounds (t .session)

@@ -13,11 +13,11 @@ use Rattle.command.specs.Lines.{NoEnd}
 use Rattle.command.specs.declared.Command.{Command}
 use Rattle.command.specs.declared.answers.Answered.{Answered}
 
--- None of the bytes ends a line.
+-- Annex 11.1: none of the bytes ends a line.
 abbrev pub HasNoEnd : List ℕ → Type 0
 HasNoEnd bytes = NoEnd bytes 0 (length bytes)
 
--- One line: what it says, what the planner answers to it, and the bytes of that answer with its end.
+-- Annex 11.11: one line: what it says, what the planner answers to it, the planner that this leaves, and the bytes of the answer with its end.
 pub record IsAnswer (p : Planner) (number : ℕ) (line bytes : List ℕ) (after : Planner) : Type 0 where
   pub command : Command
   pub says : Says line command
@@ -26,7 +26,8 @@ pub record IsAnswer (p : Planner) (number : ℕ) (line bytes : List ℕ) (after 
   pub planner : after ≡ answered .planner
   pub written : IsLine (answered .letter) (take (answered .numbers .count) (answered .numbers .values)) bytes
 
--- 01: "Lines end in LF", byte 10. Each line has the next number, gets the planner that the one before left, and its answer follows theirs.
+-- Annex 11.3, 11.11, 11.22: each line ends in byte 10, has the next number, from 1 on, gets the planner that the one before left, and its answer
+-- follows theirs.
 pub data Transcript (p : Planner) : List ℕ → List ℕ → Planner → ℕ → Type 0 where
   none : Transcript p [] [] p 0
   next : {lines answers : List ℕ} {q : Planner} {n : ℕ} → Transcript p lines answers q n → (line answer : List ℕ) (after : Planner) → HasNoEnd line
@@ -41,7 +42,7 @@ pub record IsCut (kept rest : List ℕ) : Type 0 where
   pub kept-is : kept ≡ take 64 line ++ more
   pub rest-is : rest ≡ line ++ more
 
--- All bytes read are whole lines and a rest. The lines have been answered, from the closed planner on; p, after n lines, is what they left.
+-- Annex 11.10: all bytes read are whole lines and a rest. The lines have been answered, from the closed planner on; p, after n lines, is what they left.
 pub record AreAnswered (read written : List ℕ) (p : Planner) (n : ℕ) (rest : List ℕ) : Type 0 where
   pub first : Planner
   pub closed : IsFresh zeros first
@@ -49,13 +50,13 @@ pub record AreAnswered (read written : List ℕ) (p : Planner) (n : ℕ) (rest :
   pub all : read ≡ lines ++ rest
   pub transcript : Transcript first lines written p n
 
--- Whole lines of what was read have been answered, and the bytes kept are the rest, or stand for it.
+-- Annex 11.22: whole lines of what was read have been answered, and the bytes kept are the rest, or stand for it.
 pub record Told (read written : List ℕ) (p : Planner) (n : ℕ) (kept : List ℕ) : Type 0 where
   pub rest : List ℕ
   pub answered : AreAnswered read written p n rest
   pub stands : (kept ≡ rest) ⊎ IsCut kept rest
 
--- 01: "the last may lack it": all that was read is answered, and what follows the last line end is a line too, if there is any.
+-- Annex 11.2: all that was read is answered, and what follows the last line end is a line too, unless it is empty.
 pub record ToldAll (read written : List ℕ) : Type 0 where
   pub rest : List ℕ
   pub no-end : HasNoEnd rest

@@ -1,4 +1,4 @@
--- The starred cases of document 01, "Tables on the edge", as one table over the contracts of the calls, and those of document 02 as another.
+-- Worked cases, each a script with its answers, as two tables over the contracts of the calls: Annex, appendix C.
 use mathlib.Core.Path.{_≡_}
 use mathlib.Core.List.{List, [], _∷_}
 use Prim.Native.Nat.{ℕ, _+_, _*_, _≤_}
@@ -35,18 +35,19 @@ pub data Case : Type 0 where
   planner-case : Setting → (lines : List Line) → Case
   superframe-case : (periods : List ℕ) (answer value : ℕ) → Case
 
--- Whatever open hands back by its contract, it has succeeded, and the lines hold from there. Whatever number superframe returns by its
+-- Annex 12.21: whatever open hands back by its contract, it has succeeded, and the lines hold from there. Whatever number superframe returns by its
 -- contract, it is the answer × 65,536, plus the value.
 unfoldable pub Holds : Case → Type 0
 Holds (planner-case s lines) = (r : Changed) → IsOpened s r → (r .answer ≡ 0) × Answers (r .planner) lines
 Holds (superframe-case periods answer value) = (r : ℕ) → r ≡ packed (superframe-of periods) → r ≡ answer * 65_536 + value
 
--- 01: "The three rounds above": O,2,6,6,0 / A,1,1,3,2 / A,2,1,6,6 / A,3,2,6,5 / R / R / R print R,0,2,2,1,2 / R,0,5,2,1,3 / R,0,8,2,1,2.
--- "B=1, F=2, G=9, T=0: stream 1 (1,2,1) goes in; 2 (2,2,1) gets 12."
--- "B=1, F=10, G=20, T=0, streams 1 and 2 both (1,10,10): round at 9 sends 1. Then 3 as (10,10,1) gets 13; as (11,10,1) 0."
--- "B=1, F=240, G=20, T=0, one (1,240,240)": by 02 (v) rounds at 21 with it, then 42 with no slot.
--- "T=999,999,999, B=1, F=1, G=1, one (1,000,000,000,1,1): a round, then 17."
--- "Superframe of 5, 7, 15 is 105; of 240, 7, 9 is 5,040; of 240, 7, 11 gets 19."
+-- Annex 12.21: tables on the edge. A stream is written (S,P,D).
+-- Three rounds: O,2,6,6,0 / A,1,1,3,2 / A,2,1,6,6 / A,3,2,6,5 / R / R / R print R,0,2,2,1,2 / R,0,5,2,1,3 / R,0,8,2,1,2.
+-- B=1, F=2, G=9, T=0: stream 1 (1,2,1) goes in, and 2 as (2,2,1) gets 12.
+-- B=1, F=10, G=20, T=0, streams 1 and 2, each (1,10,10): a round at 9 sends 1. Then 3 gets 13 as (10,10,1) and 0 as (11,10,1).
+-- B=1, F=240, G=20, T=0, stream 1 (1,240,240): a round at 21 with it, then one at 42 with no slot.
+-- B=1, F=1, G=1, T=999,999,999, stream 1 (1,000,000,000,1,1): a round at the last start with it, then 17.
+-- Superframe: 5, 7, 15 give 105; 240, 7, 9 give 5,040; 240, 7, 11 get 19.
 unfoldable pub starred : List Case
 starred =
     planner-case (setting 2 6 6 0)
@@ -63,12 +64,12 @@ starred =
     ∷ superframe-case (240 ∷ 7 ∷ 11 ∷ []) 19 0
     ∷ []
 
--- Document 02, worked out. (i) and (v): O,2,6,6,0 / R / R / R / A,1,22,3,2 / R / D,1 / R print R,0,7,0 / R,0,14,0 / R,0,21,0, then with the
--- stream R,0,23,1,1, since its packet is due at 24, and without it R,0,30,0, at the cap again.
+-- Annex 12.21: rounds with no stream, at the cap: O,2,6,6,0 / R / R / R / A,1,22,3,2 / R / D,1 / R print R,0,7,0 / R,0,14,0 / R,0,21,0, then with
+-- the stream R,0,23,1,1, since its packet is due at 24, and without it R,0,30,0, at the cap again.
 -- B=2, F=6, G=2: with T=999,999,997 a round at 1,000,000,000, then 17; with T=999,999,998, where L + G is in time, 17 at once.
--- (v), B=1, F=12, T=0, G=1: rounds at 2 and 4; G=255: at 256 and 512. G=5, one stream (1,12,D), due at D + 1: D=5 is sent at 5, D=6 and D=7 at
--- the cap, 6.
--- (ii), F=12, G=20, T=0, all due at 9. B=1, streams 1 (5,12,4) and 2 (1,12,8): a round at 7 sends 2, one at 8 sends 1; by id alone it would be 1, 2.
+-- Near the cap, B=1, F=12, T=0. G=1: rounds at 2 and 4; G=255: at 256 and 512. G=5, one stream (1,12,D), due at D + 1: D=5 is sent at 5,
+-- D=6 and D=7 at the cap, 6.
+-- Ties, F=12, G=20, T=0, all due at 9. B=1, streams 1 (5,12,4) and 2 (1,12,8): a round at 7 sends 2, one at 8 sends 1; by id alone it would be 1, 2.
 -- B=2, with 2 as (3,12,6) and 3 as (1,12,8): at 7 the ids are 3, 2, at 8 it is 1. B=1, streams 9, 4 and 7, each (1,12,8): 4 at 6, 7 at 7, 9 at 8.
 unfoldable pub later : List Case
 later =

@@ -1,4 +1,4 @@
--- The three demands, a held round as a packet, and the cases of the documents. A reader has to believe CallLists, Rivals and the statements of
+-- The three demands, a held round as a packet, and worked cases. A reader has to believe CallLists, Rivals and the statements of
 -- One, Two, Three, Packets and Cases, with the definitions that they cite; Facts proves them.
 pub mod CallLists
 pub mod Rivals

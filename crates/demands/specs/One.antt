@@ -1,5 +1,4 @@
--- Demand 1: "Every call on every input ends, stays inside its buffers and takes nothing on trust from the caller. If it refuses, it gives the
--- first number that applies and leaves planner and slot buffer unchanged; a refused opening gives a closed planner."
+-- Demand 1: nothing on trust. Annex, chapter 12.
 -- That calls end and stay inside their buffers is what the checker proves of every function, and none of these four has a `requires`. The queue's
 -- calls and superframe say the same in their own contracts; `filled` refuses nothing.
 use mathlib.Core.Path.{_≡_}
@@ -15,7 +14,8 @@ use Rattle.planner.specs.declared.Planner.{Planner}
 use Rattle.planner.specs.declared.Changed.{Changed}
 use Rattle.planner.specs.declared.Rounded.{Rounded}
 
--- Open: the first number that applies, else 0; success gives a sound planner with L = T and no stream, a refusal the closed one.
+-- Annex 12.2, 12.3: open gives the first number that applies, else 0; success gives a sound planner with B, F, G and L = T as passed and no stream, a
+-- refusal the closed one, which is not sound.
 pub record OpenMeets (s : Setting) (r : Changed) : Type 1 where
   pub answer : FirstOf (open-refusals s) (r .answer)
   pub sound : r .answer ≡ 0 → Sound (r .planner)
@@ -23,24 +23,26 @@ pub record OpenMeets (s : Setting) (r : Changed) : Type 1 where
   pub closed : (r .answer ≡ 0 → ⊥) → IsFresh zeros (r .planner)
   pub not-sound : (r .answer ≡ 0 → ⊥) → Sound (r .planner) → ⊥
 
--- Add: the first number that applies, else 0; a refusal changes nothing, and a sound planner stays sound.
+-- Annex 12.2, 12.3: add gives the first number that applies, else 0; a refusal changes nothing, and a sound planner stays sound.
 pub record AddMeets (p : Planner) (o : Offer) (r : Changed) : Type 1 where
   pub answer : FirstOf (add-refusals p o) (r .answer)
   pub unchanged : (r .answer ≡ 0 → ⊥) → r .planner ≡ p
   pub sound : Sound p → Sound (r .planner)
 
+-- Annex 12.2, 12.3: remove, the same.
 pub record RemoveMeets (p : Planner) (id : ℕ) (r : Changed) : Type 1 where
   pub answer : FirstOf (remove-refusals p id) (r .answer)
   pub unchanged : (r .answer ≡ 0 → ⊥) → r .planner ≡ p
   pub sound : Sound p → Sound (r .planner)
 
--- Round: the same of planner and buffer; a refusal gives start 0 and count 0.
+-- Annex 12.2, 12.3: round, the same of planner and buffer; a refusal gives start 0 and n 0.
 pub record RoundMeets (p : Planner) (before after : List ℕ) (r : Rounded) : Type 1 where
   pub answer : FirstOf (round-refusals p before) (r .answer)
   pub unchanged : (r .answer ≡ 0 → ⊥) → IsRefusedRound p before after r
   pub sound : Sound p → Sound (r .planner)
 
--- All four calls, on every input, by the contracts that their code is proved to meet.
+-- Annex 7.1, 11.10, 12.1, 12.3: all four calls, on any planner, sound or not, any numbers and any buffer, by the contracts that their code is proved
+-- to meet; nothing is asked of the caller.
 pub record Demand1 : Type 1 where
   pub open-meets : (s : Setting) (r : Changed) → IsOpened s r → OpenMeets s r
   pub add-meets : (p : Planner) (o : Offer) (r : Changed) → IsAdd p o r → AddMeets p o r

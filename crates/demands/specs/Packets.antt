@@ -10,11 +10,11 @@ use Rattle.packet_bytes.specs.Layout.{Values}
 use Rattle.packets.specs.Good.{IsGood}
 use Rattle.packets.specs.Writing.{IsWritten}
 
--- What a round answered, as the values of a packet: its start, the planner's B, and the ids in the buffer's first n places.
+-- Annex 12.16: what a round answered, as the values of a packet: its start, the planner's B, and the ids in the buffer's first n places.
 abbrev pub round-values : Planner → List ℕ → Rounded → Values
 round-values p after r = record { start = r .start; slots = p .slots; ids = take (r .n) after }
 
--- 02 (iii) of a held round: its values are a good packet's, whose n is the n answered; the planner handed back has the same B; and a writer of
+-- Annex 12.16: of a held round: its values are a good packet's, whose n is the n answered; the planner handed back has the same B; and a writer of
 -- them answers 0 where the packet lent has 6 + 2×n bytes or more, 28 where it has fewer, and so never 27.
 pub record IsPacketOfRound (p : Planner) (after : List ℕ) (r : Rounded) : Type 0 where
   pub good : IsGood (round-values p after r)

@@ -1,6 +1,4 @@
--- Demand 2: "Each round's start and slots are those of the lazy rule with earliest deadline first", equal deadlines by earlier release, then by
--- smaller id, as 02 (ii) has it. "A well-formed new stream, offered to a sound planner with a place free, is refused exactly when no plan serves
--- the table, all starts put together, or none serves it from now on with the packets now held."
+-- Demand 2: the right round, and every stream that can be served. Annex, chapter 12.
 use mathlib.Core.Path.{_≡_}
 use mathlib.Core.Logic.{_↔_, _∨₁_}
 use mathlib.Core.List.{List, [], map}
@@ -20,7 +18,7 @@ use Rattle.planner.specs.declared.Planner.{Planner}
 use Rattle.planner.specs.declared.Changed.{Changed}
 use Rattle.planner.specs.declared.Rounded.{Rounded}
 
--- The n ids in the buffer are those of the slots: of the packets that may ride, the first B by due time, then release, then id, in that order.
+-- Annex 12.4: the n ids in the buffer are those of the slots: of the packets that may ride, the first B by due time, then release, then id, in that order.
 -- There is only one such list of packets (`slots-unique` of the rules), and of those due at the same time none is left out that has waited longer
 -- than one in it (`among-equals-longest-first` of the rules).
 pub record WritesSlots (p : Planner) (after : List ℕ) (r : Rounded) : Type 0 where
@@ -29,7 +27,7 @@ pub record WritesSlots (p : Planner) (after : List ℕ) (r : Rounded) : Type 0 w
   pub n : r .n ≡ length packets
   pub ids : take (r .n) after ≡ map (λ (q : Packet). q .number) packets
 
--- 02 (i) and (v), a round where there is no stream: at L + 1 + G with no slots, nothing is written, and L alone moves; 17 where that is after
+-- Annex 7.32: a round where there is no stream: at L + 1 + G with no slots, nothing is written, and L alone moves; 17 where that is after
 -- 1,000,000,000. The lazy rule and the slot rule come to this by themselves.
 pub record RoundIsAtCap (p : Planner) (before after : List ℕ) (r : Rounded) : Type 0 where
   pub exactly : (r .answer ≡ 0) ↔ (cap-of (content p) ≤ last-start)
@@ -39,9 +37,8 @@ pub record RoundIsAtCap (p : Planner) (before after : List ℕ) (r : Rounded) : 
   pub buffer : r .answer ≡ 0 → after ≡ before
   pub leaves : r .answer ≡ 0 → content (r .planner) ≡ opened (setting-of (with-last (content p) (cap-of (content p))))
 
--- On every sound planner, with or without a stream, and a buffer of at least B places: there is a lazy start; held exactly if it is at most
--- 1,000,000,000, and 17 if not; held, start, buffer and planner are those of the lazy rule and the slot rule, which `IsHeldRound` states, and the
--- slots are those of 01, said of all packets that may ride.
+-- Annex 12.4: there is a lazy start; the round is held exactly if it is at most 1,000,000,000, and gets 17 exactly if not. Held, it is as `IsHeldRound`
+-- states by the lazy rule and the slot rule, and the slots are said of all packets that may ride; without streams it is at the cap.
 pub record RoundIsLazy (p : Planner) (before after : List ℕ) (r : Rounded) : Type 0 where
   pub has-start : (s : ℕ) × IsStart (content p) s
   pub exactly : (s : ℕ) → IsStart (content p) s → (r .answer ≡ 0) ↔ (s ≤ last-start)
@@ -50,15 +47,16 @@ pub record RoundIsLazy (p : Planner) (before after : List ℕ) (r : Rounded) : T
   pub slots : r .answer ≡ 0 → WritesSlots p after r
   pub without-streams : content p .table ≡ [] → RoundIsAtCap p before after r
 
--- Some plan serves the table, all starts put together: every start and the moment at 0.
+-- Annex 6.6: some plan serves the table, all starts put together: every unserved packet's release and the plan's moment at 0.
 abbrev pub ServableTogether : Content → Type 0
 ServableTogether h = Servable (slots-of h) 0 (map at-zero (streams-in h))
 
--- Some plan serves it from now on with the packets now held.
+-- Annex 6.5: some plan from now serves the table with the packets now held.
 abbrev pub ServableFromNow : Content → Type 0
 ServableFromNow h = Servable (slots-of h) (now-of h) (streams-in h)
 
--- h is what the planner would hold with the stream.
+-- Annex 12.5: 12 exactly if the table of h cannot be served together, 13 exactly if it can but not from now, 0 exactly if both; with 0 it is held.
+-- h is the planner's content with the stream.
 pub record AddIsExact (h : Content) (r : Changed) : Type 0 where
   pub twelve : (r .answer ≡ 12) ↔ (ServableTogether h → ⊥)
   pub thirteen : (r .answer ≡ 13) ↔ (ServableTogether h × (ServableFromNow h → ⊥))
@@ -66,6 +64,7 @@ pub record AddIsExact (h : Content) (r : Changed) : Type 0 where
   pub refused : (r .answer ≡ 0 → ⊥) ↔ ((ServableTogether h → ⊥) ∨₁ (ServableFromNow h → ⊥))
   pub stored : r .answer ≡ 0 → IsSoundWith h (r .planner)
 
+-- Annex 12.4, 12.5: of every sound planner: each round into a buffer of at least B places, and each add of a well-formed stream with a place free.
 pub record Demand2 : Type 0 where
   pub round-is-lazy : (p : Planner) → Sound p → (before after : List ℕ) → content p .slots ≤ length before
       → (r : Rounded) → IsRound p before after r → RoundIsLazy p before after r

@@ -1,4 +1,4 @@
--- Bytes taken apart again: what the functions that read them promise. That this is the layout the other way round is shown in LayoutFacts.
+-- Bytes taken apart again: what the functions that read them promise. That this is the layout the other way round is shown in Facts.Layout.
 use mathlib.Core.List.{List, [], _∷_}
 use Prim.Native.Nat.{ℕ, _+_, _*_}
 use lib.ListN.{getD, drop}

@@ -45,7 +45,7 @@ fn are_good(start: u32, slots: u32, ids: &[u16]) -> bool
     ids_are_good(ids)
 }
 
-// Writes a packet: 27 for a value that is not good, 28 for a buffer too short, both with nothing written.
+// Annex 10.4, 10.5: writes a packet; 27 for a value that is not good, 28 for a buffer too short, both with nothing written.
 #[no_mangle]
 pub extern "C" fn packet_write<'a>(
     start: u32,
@@ -84,7 +84,7 @@ fn read_refusal(packet: &[u8]) -> u32
     0
 }
 
-// Reads a packet.
+// Annex 10.6, 10.7: reads a packet.
 #[no_mangle]
 pub extern "C" fn packet_read(packet: &[u8]) -> Header
     ensures { λ r. ⌜ IsRead (now (packet .entry)) r ⌝ }
@@ -106,7 +106,7 @@ pub extern "C" fn packet_read(packet: &[u8]) -> Header
     }
 }
 
-// The second call: the ids' bytes. The packet is tested again, since a caller may not have read it.
+// Annex 10.8: the second call, the ids' bytes. The packet is tested again, since a caller may not have read it.
 pub fn packet_ids(packet: &[u8]) -> &[u8]
     ensures { λ r. ⌜ now r ≡ ids-part (now (packet .entry)) ⌝ }
 {
@@ -116,7 +116,7 @@ pub fn packet_ids(packet: &[u8]) -> &[u8]
     &packet[6..]
 }
 
-// How long that part is: C takes so many bytes from byte 6 of its packet on.
+// Annex 10.8: how long that part is: C takes so many bytes from byte 6 of its packet on.
 #[no_mangle]
 pub extern "C" fn packet_ids_length(packet: &[u8]) -> usize
     ensures { λ r. ⌜ r ≡ length (ids-part (now (packet .entry))) ⌝ }

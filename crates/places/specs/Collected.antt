@@ -7,7 +7,7 @@ use native.Mathlib.Decide.{decLe}
 use Rattle.places.specs.Order.{Entry}
 use Rattle.places.specs.Entries.{put}
 
--- The entries in the first n places, in order. A place with id 0 is free.
+-- Annex 8.3: the entries in the first n places, each put where it belongs in the order. A place with id 0 is free.
 unfoldable pub collected : (at : ℕ → Entry) → ℕ → List Entry
 collected at zero = []
 collected at (suc i) = ite (decLe 1 (at i .id)) (put (at i) (collected at i)) (collected at i)

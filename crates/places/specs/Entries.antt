@@ -7,25 +7,25 @@ use native.Mathlib.Decide.{ℕ-discrete}
 use lib.ListN.{getD}
 use Rattle.places.specs.Order.{Entry, before, triple}
 
--- An entry put into its place in a list in order.
+-- Annex 8.10: an entry put into a list in order: in front of the first entry that it comes before, at the end if there is none.
 unfoldable pub put : Entry → List Entry → List Entry
 put e [] = e ∷ []
 put e (x ∷ xs) = ite (before e x) (e ∷ x ∷ xs) (x ∷ put e xs)
 
--- The list without the entry of an id.
+-- Annex 8.11: the list without any entry of an id, the others as they stood.
 unfoldable pub without : ℕ → List Entry → List Entry
 without id es = filter (λ (e : Entry). Dec·not (ℕ-discrete (e .id) id)) es
 
--- The entries after a key, a release and an id.
+-- Annex 8.14: the entries that come after a key, a release and an id, strictly, as they stood.
 unfoldable pub after : Entry → List Entry → List Entry
 after point es = filter (λ (e : Entry). before point e) es
 
--- What an id is filed as, zeros if it is not filed.
+-- Annex 8.12: what an id is filed as: its first entry, zeros if it has none.
 unfoldable pub filed-as : ℕ → List Entry → Entry
 filed-as id [] = triple 0 0 0
 filed-as id (e ∷ es) = ite (ℕ-discrete (e .id) id) e (filed-as id es)
 
--- 02 (ii): "move adds its amount to both".
+-- Annex 8.12: an entry moved on: the amount is added to its key and to its release, and the id stays.
 abbrev pub moved-on : ℕ → Entry → Entry
 moved-on amount e = record { key = e .key + amount; release = e .release + amount; id = e .id }
 
@@ -41,7 +41,7 @@ row-of ids keys releases i = record { key = getD keys i 0; release = getD releas
 abbrev pub FilesJust : (ids keys releases : List ℕ) → ℕ → List Entry → Type 0
 FilesJust ids keys releases n es = (e : Entry) → List·Mem e es ↔ ∥ ((i : ℕ) × (i < n) × (e ≡ row-of ids keys releases i)) ∥₁
 
--- 01: no "key above 2,000,000,000" and no "span of largest minus smallest key above 479". 02 (ii): "23 also covers a release above its key".
+-- Annex 8.5: no key is above 2,000,000,000, no release above its key, and no key more than 479 above another. Equality is within bounds.
 pub record InBounds (es : List Entry) : Type 0 where
   pub keys : (e : Entry) → List·Mem e es → e .key ≤ 2_000_000_000
   pub released : (e : Entry) → List·Mem e es → e .release ≤ e .key

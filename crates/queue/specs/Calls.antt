@@ -1,4 +1,4 @@
--- What each call of the queue answers and leaves, as document 01 says it under "Queue", and document 02 under (ii).
+-- What each call of the queue answers and leaves: Annex, chapter 8.
 use mathlib.Core.Path.{_≡_}
 use mathlib.Core.Logic.{Dec·and, Dec·not}
 use mathlib.Core.List.{List, [], _∷_}
@@ -16,75 +16,74 @@ use Rattle.queue.specs.declared.Queue.{Queue}
 use Rattle.queue.specs.declared.Changed.{Changed}
 use Rattle.queue.specs.declared.Found.{Found}
 
--- 01: "5 for links not sound".
+-- Annex 8.10 to 8.14: 5 if the queue is not sound.
 abbrev pub unsound : Queue → Refusal
 unsound q = record { number = 5; Applies = Sound q → ⊥; decided = Dec·not (decide-sound q) }
 
--- 01: "6" for a bad id.
+-- Annex 8.10: 6 unless the id is 1 to 32,767.
 abbrev pub bad-id : ℕ → Refusal
 bad-id id = record { number = 6; Applies = ((1 ≤ id) × (id ≤ largest-id)) → ⊥; decided = Dec·not (Dec·and (decLe 1 id) (decLe id largest-id)) }
 
--- 01: "21 with 64 filed".
+-- Annex 8.10: 21 if 64 entries are filed, or more, for which a queue has no place.
 abbrev pub full : List Entry → Refusal
 full es = record { number = 21; Applies = places ≤ length es; decided = decLe places (length es) }
 
--- 01: "22 for an id filed".
+-- Annex 8.10: 22 if some entry has the id.
 abbrev pub filed : ℕ → List Entry → Refusal
 filed id es = record { number = 22; Applies = Filed id es; decided = decide-filed id es }
 
--- 01: "23 if the change would leave a key above 2,000,000,000 or a span of largest minus smallest key above 479". 02 (ii): or a release above its
--- key.
+-- Annex 8.10, 8.12: 23 if these entries, which the change would leave, are out of bounds (Annex 8.5).
 abbrev pub out-of-bounds : List Entry → Refusal
 out-of-bounds es = record { number = 23; Applies = InBounds es → ⊥; decided = Dec·not (decide-in-bounds es) }
 
--- 01: "24 for an id not filed".
+-- Annex 8.11, 8.12: 24 if no entry has the id.
 abbrev pub not-filed : ℕ → List Entry → Refusal
 not-filed id es = record { number = 24; Applies = Filed id es → ⊥; decided = Dec·not (decide-filed id es) }
 
--- The entries after a move. 01: "Move adds a given amount to a key"; 02 (ii): "move adds its amount to both".
+-- Annex 8.12: the entries after a move: the one of the id is taken out, and put in again with the amount on its key and its release.
 abbrev pub moved : ℕ → ℕ → List Entry → List Entry
 moved id amount es = put (moved-on amount (filed-as id es)) (without id es)
 
--- 01: "Insert refuses 5 .., 6, 21 .., 22 .., 23".
+-- Annex 8.10: insert refuses 5, 6, 21, 22 and 23 in this order, 23 by the entries with the new one put in.
 abbrev pub insert-refusals : Queue → ℕ → ℕ → ℕ → List Refusal
 insert-refusals q id key release =
     unsound q ∷ bad-id id ∷ full (entries q) ∷ filed id (entries q) ∷ out-of-bounds (put (triple key release id) (entries q)) ∷ []
 
--- 01: "Delete refuses 5, 24".
+-- Annex 8.11: delete refuses 5, then 24.
 abbrev pub delete-refusals : Queue → ℕ → List Refusal
 delete-refusals q id = unsound q ∷ not-filed id (entries q) ∷ []
 
--- 01: "Move ..: 5, 24, 23".
+-- Annex 8.12: move refuses 5, 24 and 23 in this order, 23 by the entries after it, whose sums have no largest number.
 abbrev pub move-refusals : Queue → ℕ → ℕ → List Refusal
 move-refusals q id amount = unsound q ∷ not-filed id (entries q) ∷ out-of-bounds (moved id amount (entries q)) ∷ []
 
--- A sound queue with these entries. How its links and free places lie is left free.
+-- Annex 8.9: a sound queue with these entries. How its links and free places lie is left free.
 pub record HasEntries (q : Queue) (es : List Entry) : Type 0 where
   pub sound : Sound q
   pub content : entries q ≡ es
 
--- A call that changes a queue gives the answer of its refusals; refused, it hands the queue back; else the queue handed back is sound and has
--- the entries es. How its links and free places lie is left free.
+-- Annex 8.9: a change answers the first of its refusals that applies; refused, it hands the queue back as it was; else the queue handed back is
+-- sound and files the entries es. How its links and free places lie is left free.
 pub record IsChange (refusals : List Refusal) (q : Queue) (es : List Entry) (r : Changed) : Type 0 where
   pub answer : r .answer ≡ answer-of refusals
   pub refused : (answer-of refusals ≡ 0 → ⊥) → r .queue ≡ q
   pub sound : answer-of refusals ≡ 0 → Sound (r .queue)
   pub content : answer-of refusals ≡ 0 → entries (r .queue) ≡ es
 
--- 01: "A refused least or next gives key 0 and id 0." 02 (ii): release 0 too.
+-- Annex 8.15: a refused least or next: its number, with key 0, release 0 and id 0.
 abbrev pub refused-find : ℕ → Found
 refused-find number = record { answer = number; key = 0; release = 0; id = 0 }
 
--- The first of these entries: 5 for links not sound, 25 if there is none.
+-- Annex 8.13, 8.14: key, release and id of the first of these entries, with answer 0; 5 for a queue not sound, then 25 if there is none.
 unfoldable pub first-of : {q : Queue} → Dec (Sound q) → List Entry → Found
 first-of (no _) es = refused-find 5
 first-of (yes _) [] = refused-find 25
 first-of (yes _) (e ∷ es) = record { answer = 0; key = e .key; release = e .release; id = e .id }
 
--- 01: "Least refuses 5, 25 if empty."
+-- Annex 8.13: least gives the first of all entries.
 abbrev pub least-of : Queue → Found
 least-of q = first-of (decide-sound q) (entries q)
 
--- 01: "Next takes a key and an id, filed or not, and gives the first pair after it: 5, 25 if none." 02 (ii): "Next takes a release too".
+-- Annex 8.14: next gives the first entry after a key, a release and an id, whatever numbers these are, filed or not.
 abbrev pub next-of : Queue → ℕ → ℕ → ℕ → Found
 next-of q key release id = first-of (decide-sound q) (after (triple key release id) (entries q))

@@ -38,11 +38,11 @@ pub numbers-from : ℕ → ℕ → List ℕ
 numbers-from x zero = []
 numbers-from x (suc n) = x ∷ numbers-from (suc x) n
 
--- The links of an empty queue: 0 at its places, and each of its 480 heads, nodes 64 on, its own neighbour.
+-- Annex 8.8: the links of an empty queue: 0 at its places, and each of its 480 heads, nodes 64 on, its own neighbour.
 pub lone-heads : List ℕ
 lone-heads = replicate 64 0 ++ numbers-from 64 480
 
--- The empty queue, one value: id 0, key 0 and release 0 at every place, and no link from a head to another node.
+-- Annex 8.8: the empty queue, one value: id 0, key 0 and release 0 at every place, and no link, on or back, from a head to another node.
 pub empty-queue : Queue
 empty-queue = queue-of (replicate 64 0) (replicate 64 0) (replicate 64 0) lone-heads lone-heads
 
@@ -62,22 +62,23 @@ next-at q x = getD (q .next) x 0
 abbrev pub prev-at : Queue → ℕ → ℕ
 prev-at q x = getD (q .prev) x 0
 
+-- Annex 8.6: what stands at a place, as an entry; whether the place holds one is not asked here.
 abbrev pub entry-at : Queue → ℕ → Entry
 entry-at q i = record { key = key-at q i; release = release-at q i; id = id-at q i }
 
--- A place holds an entry unless its id is 0.
+-- Annex 8.6: one of the 64 places holds an entry unless its id is 0.
 abbrev pub Holds : Queue → ℕ → Type 0
 Holds q i = (i < 64) × (1 ≤ id-at q i)
 
--- A queue's entries, sorted by key, then release, then id.
+-- Annex 8.3: a queue's entries, of all 64 places, sorted by key, then release, then id.
 pub entries : Queue → List Entry
 entries q = collected (entry-at q) 64
 
--- A node is a place that holds an entry, or the head of a bucket: node 64 + b for bucket b.
+-- Annex 8.6: a node is a place that holds an entry, or the head of a bucket: node 64 + b for bucket b, 64 to 543.
 abbrev pub IsNode : (ids : ℕ → ℕ) → ℕ → Type 0
 IsNode ids x = ((x < 64) × (1 ≤ ids x)) ⊎ ((64 ≤ x) × (x < 544))
 
--- The bucket of a key: there are 480, in a circle.
+-- Annex 8.6: the bucket of a key: there are 480, in a circle.
 abbrev pub bucket-of-key : ℕ → ℕ
 bucket-of-key key = key % 480
 
@@ -85,12 +86,12 @@ bucket-of-key key = key % 480
 abbrev pub bucket-after : ℕ → ℕ
 bucket-after bucket = (bucket + 1) % 480
 
--- The bucket of a node: that of an entry's key, a head's own.
+-- Annex 8.6: the bucket of a node: that of an entry's key, a head's own.
 pub bucket-of : (keys : ℕ → ℕ) → ℕ → ℕ
 bucket-of keys x = ite (decLt x 64) (bucket-of-key (keys x)) (x - 64)
 
--- 01: "in its key's bucket and in order, every link matched by its return link", said of one node. A list runs from its head and back to it, so
--- the order is asked of two entries that follow one another.
+-- Annex 8.7: one node's links: its next and its prev are nodes that lead back to it, and its next is in its bucket. A list runs from its head
+-- and back to it, so the order is asked of two entries that follow one another.
 pub record Linked (places : ℕ → Entry) (next prev : ℕ → ℕ) (x : ℕ) : Type 0 where
   next-is-node : IsNode (λ i. places i .id) (next x)
   next-in-bucket : bucket-of (λ i. places i .key) (next x) ≡ bucket-of (λ i. places i .key) x
@@ -99,12 +100,12 @@ pub record Linked (places : ℕ → Entry) (next prev : ℕ → ℕ) (x : ℕ) :
   prev-is-node : IsNode (λ i. places i .id) (prev x)
   prev-returns : next (prev x) ≡ x
 
+-- Annex 8.7: every node is linked so; the links of free places are not looked at.
 abbrev pub AllLinked : (places : ℕ → Entry) (next prev : ℕ → ℕ) → Type 0
 AllLinked places next prev = (x : ℕ) → IsNode (λ i. places i .id) x → Linked places next prev x
 
--- 01: "Links are sound if at most 64 ids are filed, each 1 to 32,767 and once only, in its key's bucket and in order, every link matched by
--- its return link, and no key or span is beyond the bounds of 23", which 02 (ii) extends to releases. There are 64 places, so no more than 64
--- ids can be filed.
+-- Annex 8.4: a queue is sound: ids of entries are at most 32,767 (and 1 or more, since a place with 0 is free) and stand at one place each; keys,
+-- releases and span are within the bounds of Annex 8.5; every node is linked. There are 64 places, so no more than 64 ids can be filed.
 pub record Sound (q : Queue) : Type 0 where
   ids-in-range : (i : ℕ) → Holds q i → id-at q i ≤ largest-id
   once : (i j : ℕ) → Holds q i → Holds q j → id-at q i ≡ id-at q j → i ≡ j

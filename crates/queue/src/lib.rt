@@ -106,7 +106,7 @@ fn insert_refusal(q: Queue, id: u32, key: u32, release: u32) -> u32
     0
 }
 
-// Files an id under a key, with a release.
+// Annex 8.10: files an id under a key, with a release.
 pub fn insert(q: Queue, id: u32, key: u32, release: u32) -> Changed
     ensures { λ r. ⌜ IsChange (insert-refusals q id key release) q (put (triple key release id) (entries q)) r ⌝ }
 {
@@ -134,7 +134,7 @@ fn delete_refusal(q: Queue, id: u32) -> u32
     0
 }
 
-// Takes an id out.
+// Annex 8.11: takes an id out.
 pub fn delete(q: Queue, id: u32) -> Changed
     ensures { λ r. ⌜ IsChange (delete-refusals q id) q (without id (entries q)) r ⌝ }
 {
@@ -167,7 +167,7 @@ fn move_refusal(q: Queue, id: u32, amount: u32) -> u32
     0
 }
 
-// Adds an amount to the key and the release of an id.
+// Annex 8.12: adds an amount to the key and the release of an id.
 pub fn move_by(q: Queue, id: u32, amount: u32) -> Changed
     ensures { λ r. ⌜ IsChange (move-refusals q id amount) q (moved id amount (entries q)) r ⌝ }
 {
@@ -179,7 +179,7 @@ pub fn move_by(q: Queue, id: u32, amount: u32) -> Changed
     Changed { answer: 0, queue }
 }
 
-// The first entry of all.
+// Annex 8.13: the first entry of all.
 pub fn least(q: Queue) -> Found
     ensures { λ r. ⌜ r ≡ least-of q ⌝ }
 {
@@ -194,7 +194,7 @@ pub fn least(q: Queue) -> Found
     least_sound(q)
 }
 
-// The first entry after a key, a release and an id, filed or not.
+// Annex 8.14: the first entry after a key, a release and an id, filed or not.
 pub fn next(q: Queue, key: u32, release: u32, id: u32) -> Found
     ensures { λ r. ⌜ r ≡ next-of q key release id ⌝ }
 {

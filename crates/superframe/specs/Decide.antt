@@ -29,7 +29,7 @@ product-is-common-multiple (x ∷ xs) positive =
       forall-mem-cons (λ p. ∣-prop p (x * product xs)) .1 (dvd-mul-right x (product xs), λ p m. dvd-mul-left-of-dvd p (rest .1 p m) x),
     )
 
--- periods in range have a least common multiple ..
+-- Annex 9.4: periods in range have a least common multiple ..
 pub lcm-exists : (periods : List ℕ) → AllInRange periods → (m : ℕ) × IsLcm periods m
 lcm-exists periods in-range =
     let some = product-is-common-multiple periods (λ p m. in-range p m .0) in

@@ -67,7 +67,7 @@ fn pack_within_limit(answer: u32, value: u32) -> u32
     answer * 65536 + value
 }
 
-// 18 if a period is not 1 to 240, else 19 if the least common multiple is above 5,040, both with value 0; else that multiple.
+// Annex 9.1 to 9.5: 18 if a period is not 1 to 240, else 19 if the least common multiple is above 5,040, both with value 0; else that multiple.
 #[no_mangle]
 pub extern "C" fn superframe(periods: &[u8]) -> u32
     ensures { λ r. ⌜ r ≡ packed (superframe-of (now (periods .entry))) ⌝ }

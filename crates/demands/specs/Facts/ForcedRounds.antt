@@ -13,7 +13,7 @@ use Rattle.table.specs.declared.Record.{Record}
 use Rattle.planner.specs.Content.{Content, now-of, slots-of, streams-in}
 use Rattle.demands.specs.Rivals.{KeepsGapOf, IsRivalOf, forced-start, forced-rounds}
 
--- With no stream every plan from now that keeps the gap limit is a rival.
+-- Annex 12.14: with no stream every plan from now that keeps the gap limit is a rival.
 pub rival-without-streams : (h : Content) → h .table ≡ [] → (plan : ℕ → Round) → IsPlan (slots-of h) (now-of h) plan → KeepsGapOf h plan
     → IsRivalOf h plan
 rival-without-streams h empty plan is-plan keeps-gap = record { is-plan = is-plan; serves = λ one is. absurd (none-of one is); keeps-gap = keeps-gap }
@@ -21,7 +21,7 @@ rival-without-streams h empty plan is-plan keeps-gap = record { is-plan = is-pla
     none-of : (one : Packet) → PacketOf (streams-in h) one → ⊥
     none-of one is = ∥∥₁-elim is ⊥-prop (λ w. not-mem-nil (subst (λ (rs : List Record). List·Mem (w .0) (as-streams rs)) empty (w .1)))
 
--- With no stream it is a rival ..
+-- Annex 12.14: with no stream the rounds that only the gap forces are a rival ..
 pub forced-is-rival : (h : Content) → h .table ≡ [] → IsRivalOf h (forced-rounds h)
 unfolding forced-start
 forced-is-rival h empty =
@@ -36,6 +36,6 @@ forced-is-rival h empty =
     })
     (record { first = omega arith; later = λ n. omega arith })
 
--- .. so that whoever holds a round earlier loses demand 3. The first one at L + G, which is before L + 1 + G, would be early.
+-- Annex 12.14: .. so that whoever holds a round earlier loses demand 3. The first one at L + G, which is before L + 1 + G, would be early.
 pub earlier-loses : (h : Content) → h .table ≡ [] → (k s : ℕ) → s < forced-start h k → ((plan : ℕ → Round) → IsRivalOf h plan → plan k .start ≤ s) → ⊥
 earlier-loses h empty k s early fewest = lt-irrefl s (lt-of-lt-of-le early (fewest (forced-rounds h) (forced-is-rival h empty)))

@@ -5,6 +5,7 @@ use Rattle.planner.specs.Facts.Open.{open-success-is-sound, closed-is-not-sound
 use Rattle.planner.specs.Facts.Calls.{answers-first, refused-change, change-keeps-sound, refused-round, round-keeps-sound}
 use Rattle.demands.specs.One.{Demand1}
 
+-- Annex 12.2, 12.3: the contracts of the four calls meet demand 1.
 pub demand-1 : Demand1
 demand-1 =
     record {

@@ -80,6 +80,7 @@ module _ (p : Planner) (sound : Sound p) (before after : List ℕ) (r : Rounded)
         ids = subst⁻¹ IdsGood written-ids ids-good;
       }
 
+  -- Annex 12.16: a round of a sound planner that answered 0 is a good packet.
   pub held-round-is-good : IsPacketOfRound p after r
   held-round-is-good =
       record {

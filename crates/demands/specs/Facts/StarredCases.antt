@@ -98,10 +98,12 @@ tested-cases (x ∷ cs) tested =
     let split : So (case-test x) × So (all-test cs) = both tested in
     forall-mem-cons (λ c. So-prop (case-test c)) .1 (split .0, tested-cases cs (split .1))
 
+-- Annex 12.21: each case of the first table holds.
 pub starred-hold : (c : Case) → List·Mem c starred → Holds c
 unfolding starred all-test
 starred-hold c m = tested-case c (tested-cases starred refl c m)
 
+-- Annex 12.21: each case of the second table holds.
 pub later-hold : (c : Case) → List·Mem c later → Holds c
 unfolding later all-test
 later-hold c m = tested-case c (tested-cases later refl c m)

@@ -17,6 +17,7 @@ use Rattle.demands.specs.Facts.ForcedRounds.{rival-without-streams}
 use Rattle.demands.specs.Facts.Held.{calls-follow, clock-stays, sent-unless-later, now-is-end, rival-never-later}
 use Rattle.demands.specs.Three.{Demand3}
 
+-- Annex 12.10, 12.11, 12.12, 12.13: the contracts of add, remove and round meet demand 3.
 pub demand-3 : Demand3
 demand-3 p sound rounds q calls =
     let (sound-after, follows) = calls-follow p sound calls in
@@ -35,7 +36,7 @@ demand-3 p sound rounds q calls =
       none-wasted = follows .in-time;
     }
 
--- With no stream every plan from now that keeps the gap limit is a rival, so none of them holds its k-th round later.
+-- Annex 12.14: with no stream every plan from now that keeps the gap limit is a rival, so none of them holds its k-th round later.
 pub fewest-without-streams : (p : Planner) → Sound p → content p .table ≡ [] → (rounds : List HeldRound) (q : Planner) → Calls p rounds q → (plan : ℕ → Round)
     → IsPlan (slots-of (content p)) (now-of (content p)) plan → KeepsGapOf (content p) plan → (k : ℕ) → k < length rounds → plan k .start ≤ start-of rounds k
 fewest-without-streams p sound empty rounds q calls plan is-plan keeps-gap =

@@ -152,6 +152,7 @@ module _ (p : Planner) (sound : Sound p) (o : Offer) (formed : IsWellFormed (con
             answers 0 (not-12 keeps ∙ answer-later (breaks-start with-it) [] (λ fails. fails keeps-start)),
           )))
 
+-- Annex 12.4, 12.5: the contracts of round and add meet demand 2.
 pub demand-2 : Demand2
 demand-2 =
     record {

@@ -28,7 +28,7 @@ values-kept v =
     let start : v .start / 16_777_216 * 16_777_216 + v .start / 65_536 % 256 * 65_536 + v .start / 256 % 256 * 256 + v .start % 256 ≡ v .start = omega arith in
     λ i. record { start = start i; slots = v .slots; ids = ids-kept (v .ids) i }
 
--- no two values have the same bytes
+-- Annex 12.18: no two values have the same bytes, good or not
 pub same-bytes-same-values : (v w : Values) → bytes-of v ≡ bytes-of w → v ≡ w
 same-bytes-same-values v w same = sym (values-kept v) ∙ ap values-in same ∙ values-kept w
 

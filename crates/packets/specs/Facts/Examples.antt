@@ -1,4 +1,4 @@
--- Worked examples: the packet of document 01's first round, byte by byte, and each refusal.
+-- Worked examples: packets byte by byte, one of them that of a first round, and each refusal.
 use mathlib.Core.Path.{_≡_, refl, sym}
 use mathlib.Core.Logic.{Or·elim}
 use mathlib.Core.HLevel.{⊥-prop}
@@ -20,7 +20,7 @@ use Rattle.packets.specs.Facts.Writing.{refuses-27, refuses-28}
 abbrev carries : ℕ → ℕ → List ℕ → Values
 carries start slots ids = record { start = start; slots = slots; ids = ids }
 
--- The first round of document 01 is held at 2 with two slots, ids 1 and 2.
+-- A round at 2 of a planner with B 2: two slots, ids 1 and 2.
 abbrev first-packet : List ℕ
 first-packet = 0 ∷ 0 ∷ 0 ∷ 2 ∷ 2 ∷ 2 ∷ 0 ∷ 1 ∷ 0 ∷ 2 ∷ []
 

@@ -19,7 +19,7 @@ use Rattle.packets.specs.Writing.{write-refusals, IsWritten}
 use Rattle.packets.specs.Facts.Writing.{written-is-good, good-is-written}
 use Rattle.packets.specs.declared.Header.{Header}
 
--- A read answers 0 exactly for the bytes of a good packet.
+-- Annex 12.18: a read answers 0 exactly for the bytes of a good packet.
 pub read-exactly : (p : List ℕ) → (answer-of (read-refusals p) ≡ 0) ↔ IsGoodPacket p
 read-exactly p = (read-is-good p, good-is-read p)
 
@@ -41,8 +41,8 @@ read-gives v good r is =
     let given = is .read zero in
     (given .3 ∙ ap header-of (same-bytes-same-values (given .0) v (sym (given .1))), sym (whole-part (bytes-of v) zero))
 
--- Reading a written packet gives its values: of what a write that answered 0 put in front, a read gives start, B and n as they were passed, and the
--- second call the bytes of the ids.
+-- Annex 12.17: reading a written packet gives its values: of what a write that answered 0 put in front, a read gives start, B and n as they were
+-- passed, and the second call the bytes of the ids.
 pub read-of-written : (v : Values) (before after : List ℕ) → IsWritten v before after 0 → (r : Header) → IsRead (take (length (bytes-of v)) after) r
     → (r ≡ header-of v) × (ids-part (take (length (bytes-of v)) after) ≡ id-bytes (v .ids))
 read-of-written v before after wrote r is =
@@ -74,7 +74,7 @@ read-values p r is zero ids part =
     let same : v ≡ record { start = r .start; slots = r .slots; ids = ids } = λ i. record { start = same-start i; slots = same-slots i; ids = same-ids i } in
     (given .1 ∙ ap bytes-of same, subst IsGood same (given .2))
 
--- Writing the values of a good packet gives its bytes: the values that a read gave, written to any buffer long enough, give the packet in front.
+-- Annex 12.17: writing what was read gives its bytes: the values that a read gave, written to any buffer long enough, give the packet in front.
 pub written-of-read : (p : List ℕ) (r : Header) → IsRead p r → r .answer ≡ 0 → (ids : List ℕ) → id-bytes ids ≡ ids-part p
     → (before after : List ℕ) (answer : ℕ) → length p ≤ length before → IsWritten (record { start = r .start; slots = r .slots; ids = ids }) before after answer
     → (answer ≡ 0) × (after ≡ p ++ drop (length p) before)
@@ -85,7 +85,7 @@ written-of-read p r is zero ids part before after answer room wrote =
     let none : answer-of (write-refusals v before) ≡ 0 = good-is-written v before (values .1) room-for-v in
     (wrote .answers ∙ none, subst⁻¹ (λ (l : List ℕ). after ≡ l ++ drop (length l) before) (values .0) (wrote .written none))
 
--- No two good packets with the same values differ: the same start, B and n read, and the same bytes of ids.
+-- Annex 12.18: no two good packets with the same values differ: the same start, B and n read, and the same bytes of ids.
 pub same-values-same-packet : (p q : List ℕ) (r : Header) → IsRead p r → IsRead q r → r .answer ≡ 0 → ids-part p ≡ ids-part q → p ≡ q
 same-values-same-packet p q r of-p of-q zero same =
     let given = of-p .read (not-refused p r of-p zero) in

@@ -5,6 +5,6 @@ use Prim.Native.Nat.{ℕ}
 use native.Mathlib.Nat.{le-antisymm}
 use Rattle.superframe.specs.Periods.{IsLcm}
 
--- .. and only one
+-- Annex 9.4: .. and only one
 pub lcm-unique : (periods : List ℕ) (m n : ℕ) → IsLcm periods m → IsLcm periods n → m ≡ n
 lcm-unique periods m n a b = le-antisymm (a .least n (b .holds)) (b .least m (a .holds))

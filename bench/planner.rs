@@ -1,6 +1,6 @@
 // What a call of the proved planner costs, everything tested, beside others that do the same work on the same tables:
 //   limit      the same full test of the same bytes, by hand in unchecked Rust: what a proved call is held to;
-//   fast       document 004's Algorithms 1 to 4 on a bucket queue made for speed, with nothing tested;
+//   fast       the Blink paper's Algorithms 1 to 4 on a bucket queue made for speed, with nothing tested;
 //   plain      the same algorithms as they stand there, with nothing tested;
 //   analytic   the sums of the rules, with a division for each stream and each length that can matter.
 // All must answer alike, and `limit` must leave the very bytes that the proved call leaves, before anything is timed.

@@ -138,7 +138,7 @@ static void small_calls(void) {
     add(1, 1000000000, 1, 1);
     hold(64);
     hold(64);
-    /* document 01's case of 13 */
+    /* 13, a table on the edge of the start rule */
     open_with(1, 10, 20, 0);
     add(1, 1, 10, 10);
     add(2, 1, 10, 10);

@@ -1,13 +1,14 @@
-/* The schedule as it goes on air: a packet's writer, for a host, and its reader, for a head's firmware.
+/* The schedule as it goes on air: a packet's writer, for a host, and its reader, for a head's firmware. docs/ANNEX.md, the Annex, chapter 10.
  *
- * Layout, 6 + 2 * n bytes: bytes 0 to 3 the round's start, the most significant byte first; byte 4 the slots of a round (B); byte 5 n; then n ids
- * of two bytes each, the most significant first, in the order of the round's slots.
- * A packet is good if its start is at most 1,000,000,000, slots is 1 to 64, n is at most slots, and the ids are 1 to 32,767 with none twice.
+ * Annex 10.2, the layout, 6 + 2 * n bytes: bytes 0 to 3 the round's start, the most significant byte first; byte 4 the slots of a round (B); byte 5
+ * n; then n ids of two bytes each, the most significant first, in the order of the round's slots.
+ * Annex 10.3: a packet is good if its start is at most 1,000,000,000, slots is 1 to 64, n is at most slots, and the ids are 1 to 32,767 with none
+ * twice.
  *
  * What is said here of answers and bytes is proved of the three calls, on every number, every list of ids and every buffer
- * (crates/packets/specs). A read answers 0 exactly for the bytes of a good packet; reading what was written gives its values, and writing what
- * was read gives its bytes; no two good packets with the same values differ. What a round of a sound planner answered, with the planner's slots,
- * is always a good packet, so that a writer never answers 27 to it.
+ * (crates/packets/specs). Annex 12.16 to 12.18: a read answers 0 exactly for the bytes of a good packet; reading what was written gives its values,
+ * and writing what was read gives its bytes; no two good packets with the same values differ. What a round of a sound planner answered, with the
+ * planner's slots, is always a good packet, so that a writer never answers 27 to it.
  * What is said of stack, symbols and machine is not proved: it is read off the library as it is built. packet_id and packet_has are plain C and
  * not proved either.
  *
@@ -34,7 +35,7 @@
 extern "C" {
 #endif
 
-/* What a read gives: the start, B and n; or the number of a refusal and zeros. */
+/* Annex 10.7: what a read gives: the start, B and n; or the number of a refusal and zeros. */
 struct packet_header {
     uint32_t answer;
     uint32_t start;
@@ -42,16 +43,16 @@ struct packet_header {
     uint32_t n;
 };
 
-/* Writes the packet of these values to the front of `packet`, 6 + 2 * n bytes; later bytes are untouched.
+/* Annex 10.4, 10.5: writes the packet of these values to the front of `packet`, 6 + 2 * n bytes; later bytes are untouched.
  * Refuses 27 for values that are not a good packet's (slots and n are compared as they are passed: 261 is not 5), then 28 if length is
  * below 6 + 2 * n; refused, it writes nothing. */
 uint32_t packet_write(uint32_t start, uint32_t slots, const uint16_t *ids, size_t n, uint8_t *packet, size_t length);
 
-/* Reads a packet of just `length` bytes. Refuses 26 if length is under 6 or other than 6 + 2 * n, then 27 if it is not good. */
+/* Annex 10.6, 10.7: reads a packet of just `length` bytes. Refuses 26 if length is under 6 or other than 6 + 2 * n, then 27 if it is not good. */
 struct packet_header packet_read(const uint8_t *packet, size_t length);
 
-/* The second call: how many bytes the ids take, from byte 6 of the packet on: 2 * n, or 0 where packet_read refuses it. It tests the packet again
- * and takes nothing from an earlier read. */
+/* Annex 10.8: the second call: how many bytes the ids take, from byte 6 of the packet on: 2 * n, or 0 where packet_read refuses it. It tests the
+ * packet again and takes nothing from an earlier read. */
 size_t packet_ids_length(const uint8_t *packet, size_t length);
 
 #ifdef __cplusplus

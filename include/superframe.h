@@ -1,6 +1,6 @@
-/* The superframe helper: the least common multiple of a list of periods.
+/* The superframe helper: the least common multiple of a list of periods. docs/ANNEX.md, the Annex, chapter 9.
  *
- * superframe(periods, count) reads count bytes, one period each, and returns answer * 65536 + value:
+ * Annex 9.1 to 9.5: superframe(periods, count) reads count bytes, one period each, and returns answer * 65536 + value:
  *   answer 18, value 0   if any period of the whole list is not 1 to 240, wherever it stands;
  *   answer 19, value 0   else, if the least common multiple of the periods is above 5,040;
  *   answer 0, value m    else, where m is that least common multiple, 1 to 5,040; no periods give 1.

@@ -51,8 +51,8 @@ impl Counts {
     }
 }
 
-/// The letter's column and the answer of one printed line: "Fields: letter,
-/// (id), answer".
+/// The letter's column and the answer of one printed line, whose fields are
+/// the letter, after A and D the id, and the answer.
 fn answer(line: &str) -> Option<(usize, usize)> {
     let fields: Vec<&str> = line.split(',').collect();
     let letter = fields[0].chars().next()?;

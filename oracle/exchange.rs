@@ -298,8 +298,8 @@ fn same_write(
     ))
 }
 
-/// A read, and for a good packet: "writing the values of a good packet gives
-/// its bytes". The answer.
+/// A read, and for a good packet Annex 12.17: writing its values gives its
+/// bytes. The answer.
 fn read_case(random: &mut Random, packet: &[u8]) -> Result<u32, String> {
     let read = same_read(random, packet)?;
     if read.answer == 0 {
@@ -320,8 +320,8 @@ fn read_case(random: &mut Random, packet: &[u8]) -> Result<u32, String> {
     Ok(read.answer)
 }
 
-/// A write, and if it is done: "Reading a written packet gives its values",
-/// and the whole buffer, if longer, is read as 26. The answer.
+/// A write, and if it is done Annex 12.17: reading it gives its values; and
+/// the whole buffer, if longer, is read as 26. The answer.
 fn write_case(random: &mut Random, values: &Values, length: usize) -> Result<u32, String> {
     let (answer, buffer) = same_write(random, values, length)?;
     if answer == 0 {

@@ -222,7 +222,7 @@ impl Script {
         }
     }
 
-    /// A start within (b)'s window, its two ends and the near more often.
+    /// A start from now to now + 239, its two ends and the near more often.
     fn start(&mut self) -> u64 {
         let after = match self.random.below(10) {
             0 | 1 => 0,

@@ -1,6 +1,7 @@
-//! A second implementation of the planner and command program of documents 01
-//! and 02, and of the packet on air, written from the papers alone, to test the
-//! first against.
+//! A second implementation of the planner, the command program and the packet
+//! on air, to test the first against: written from the owner's papers alone,
+//! before this annex (docs/ANNEX.md). The clauses that its comments give were
+//! put in afterwards.
 
 mod cases;
 mod count;
@@ -27,7 +28,7 @@ oracle unpack               reads a packet on standard input and prints
                             ANSWER,START,B,N and ,ID for each id
 oracle cases                answers the packet cases on standard input, which
                             are those of crates/packet_cases
-oracle selftest             checks the papers' cases and itself
+oracle selftest             checks the worked cases and itself
 ";
 
 fn main() -> ExitCode {

@@ -1,11 +1,10 @@
-//! The schedule as it goes on air, document 02 (iii): the writer and reader of its
-//! packet, literal and slow. Written from the paper alone; it shares nothing
-//! with the library it checks.
+//! The schedule as it goes on air: the writer and reader of its packet,
+//! literal and slow. It shares nothing with the library it checks.
 
-/// "The ids are written from byte 6 of the lent packet onward".
+/// Annex 10.2: the byte from which on the ids stand.
 pub const IDS_FROM: usize = 6;
 
-/// "The reader gives start, B and n", and its answer.
+/// Annex 10.7: what the reader gives: its answer, start, B and n.
 #[derive(Clone, Debug, PartialEq, Eq)]
 pub struct Read {
     pub answer: u32,
@@ -14,10 +13,10 @@ pub struct Read {
     pub n: u64,
 }
 
-/// "the writer refuses 27, then 28 for a buffer shorter than needed"; "a
-/// refused write writes nothing", and "bytes past the end are untouched".
-/// "The writer takes the ids as 16-bit numbers and n as their count." The
-/// start and B are wider than a byte here, so "B = 261 is 27, not byte 5".
+/// Annex 10.4, 10.5: 27 for values not good, then 28 for a buffer shorter than
+/// needed; refused, nothing is written, and bytes past the end are untouched.
+/// The ids are 16-bit numbers, and n is their count. The start and B are wider
+/// than a byte here, so that B = 261 is 27 and not byte 5.
 pub fn write(start: u64, slots: u64, ids: &[u16], buffer: &mut [u8]) -> u32 {
     let ids: Vec<u64> = ids.iter().map(|id| u64::from(*id)).collect();
     if !good(start, slots, &ids) {
@@ -31,9 +30,8 @@ pub fn write(start: u64, slots: u64, ids: &[u16], buffer: &mut [u8]) -> u32 {
     0
 }
 
-/// "the reader refuses 26 for a length other than 6 + 2×n (or under 6), then
-/// 27 for a value not good"; "the reader's n is byte 5". "A refused read gives
-/// zeros".
+/// Annex 10.6, 10.7: 26 for a length under 6 or other than 6 + 2×n, where n is
+/// byte 5, then 27 for a value not good; refused, zeros.
 pub fn read(packet: &[u8]) -> Read {
     if packet.len() < IDS_FROM {
         return refused(26);
@@ -56,9 +54,9 @@ pub fn read(packet: &[u8]) -> Read {
     }
 }
 
-/// "a second call gives the ids' bytes as the part of the packet from byte 6";
-/// after a refused read it gives "an empty part". "the second call takes the
-/// packet alone and tests it again".
+/// Annex 10.8: the second call, which takes the packet alone and tests it
+/// again: the ids' bytes, as the part of the packet from byte 6 on; where the
+/// read is refused, an empty part.
 pub fn ids_part(packet: &[u8]) -> &[u8] {
     if read(packet).answer != 0 {
         return &[];
@@ -66,7 +64,7 @@ pub fn ids_part(packet: &[u8]) -> &[u8] {
     &packet[IDS_FROM..]
 }
 
-/// The ids in such a part: "two bytes each, most significant first".
+/// The ids in such a part: two bytes each, the most significant first.
 pub fn ids(part: &[u8]) -> Vec<u16> {
     let id = |two| u16::try_from(number(two)).expect("two bytes are 16 bits");
     part.chunks(2).map(id).collect()
@@ -89,7 +87,7 @@ pub fn text(packet: &[u8]) -> String {
     text
 }
 
-/// "A refused read gives zeros".
+/// Annex 10.7: a refused read, which gives zeros.
 fn refused(answer: u32) -> Read {
     Read {
         answer,
@@ -99,8 +97,8 @@ fn refused(answer: u32) -> Read {
     }
 }
 
-/// "A packet is good if the start is at most 1,000,000,000, B is 1 to 64, n is
-/// at most B, and the ids are 1 to 32,767, none twice."
+/// Annex 10.3: the start is at most 1,000,000,000, B is 1 to 64, n is at most
+/// B, and the ids are 1 to 32,767, none twice.
 fn good(start: u64, slots: u64, ids: &[u64]) -> bool {
     let count = |id: u64| ids.iter().filter(|other| **other == id).count();
     start <= 1_000_000_000
@@ -111,8 +109,8 @@ fn good(start: u64, slots: u64, ids: &[u64]) -> bool {
             .all(|id| (1..=32_767).contains(id) && count(*id) == 1)
 }
 
-/// "bytes 0 to 3 the start, most significant byte first; byte 4 is B; byte 5
-/// is n; then n ids of two bytes each, most significant first"
+/// Annex 10.2: bytes 0 to 3 the start, the most significant first; byte 4 B;
+/// byte 5 n; then n ids of two bytes each, the most significant first.
 fn layout(start: u64, slots: u64, ids: &[u64]) -> Vec<u8> {
     let mut values = vec![
         start / 16_777_216,
@@ -130,7 +128,7 @@ fn layout(start: u64, slots: u64, ids: &[u64]) -> Vec<u8> {
     values.into_iter().map(byte).collect()
 }
 
-/// The number in some bytes, "most significant byte first".
+/// The number in some bytes, the most significant first.
 fn number(bytes: &[u8]) -> u64 {
     bytes
         .iter()

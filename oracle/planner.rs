@@ -1,19 +1,19 @@
-//! The planner of document 01, literal and slow: every rule is summed with
-//! divisions, for every length, at every call. Numbers are 64 bits wide, so
-//! no sum can pass its type. It shares nothing with the program it checks.
+//! The planner, literal and slow: every rule is summed with divisions, for
+//! every length, at every call. Numbers are 64 bits wide, so no sum can pass
+//! its type. It shares nothing with the program it checks.
 
-/// "the last round start is 1,000,000,000"
+/// Annex 1.3: the last start of a round.
 pub const LAST_START: u64 = 1_000_000_000;
 
-/// "at most 64 streams"
+/// Annex 3.6: the most streams that a planner holds.
 const MOST_STREAMS: usize = 64;
 
 /// Lengths looked at beyond those that are enough (see `demand_rule` and
 /// `times`); none of the rules needs it.
 const MARGIN: u64 = 480;
 
-/// "each stream with its first unserved packet"; of that packet the release
-/// is kept, "due at S + k×P + D" is the release plus D.
+/// Annex 3.2: a stream with its first unserved packet, of which the release is
+/// kept; it is due at the release plus D.
 #[derive(Clone, Debug, PartialEq, Eq)]
 pub struct Stream {
     pub id: u64,
@@ -27,15 +27,15 @@ impl Stream {
         self.release + self.deadline
     }
 
-    /// "A packet may ride in a round starting at s if it was released by s
-    /// (equality counts) and is due at s + 1 or later."
+    /// Annex 2.3: the unserved packet may ride in a round at s if it is
+    /// released at s or before and due at s + 1 or later.
     pub fn may_ride(&self, s: u64) -> bool {
         self.release <= s && self.due() >= s + 1
     }
 }
 
-/// "B, F, G, the last round's start L, and each stream with its first
-/// unserved packet."
+/// Annex 3.1: B, F, G, the last round's start L, and the streams, each with
+/// its first unserved packet.
 #[derive(Clone, Debug, PartialEq, Eq)]
 pub struct Planner {
     pub slots: u64,
@@ -46,7 +46,7 @@ pub struct Planner {
 }
 
 impl Planner {
-    /// "the closed planner: every number 0, no stream"
+    /// Annex 3.12: the closed planner, every number 0 and no stream.
     pub fn closed() -> Planner {
         Planner {
             slots: 0,
@@ -57,9 +57,9 @@ impl Planner {
         }
     }
 
-    /// "It refuses 1 for B, 2 for F, 3 for G out of range, 4 for T above
-    /// 1,000,000,000. The new planner has L = T. A refusal hands back the
-    /// closed planner".
+    /// Annex 7.6 to 7.8: 1 for B, 2 for F, 3 for G out of range, 4 for T above
+    /// 1,000,000,000. The new planner has L = T; refused, it is the closed
+    /// one.
     pub fn open(slots: u64, superframe: u64, gap: u64, time: u64) -> (Planner, u32) {
         let answer = if !(1..=64).contains(&slots) {
             1
@@ -86,12 +86,12 @@ impl Planner {
     }
 
     /// A planner made by these operations is sound or closed, so the closed
-    /// one is the only one "not sound". (`sound` states it in full.)
+    /// one is the only one that is not sound. (`sound` states it in full.)
     pub fn is_closed(&self) -> bool {
         self.slots == 0
     }
 
-    /// "\"Now\" is L + 1."
+    /// Annex 3.4: now, the end of the last round.
     pub fn now(&self) -> u64 {
         self.last + 1
     }
@@ -109,43 +109,42 @@ impl Planner {
         answer
     }
 
-    /// "Refusals are tested in the order written; each is given whenever its
-    /// condition holds and no earlier one does."
+    /// Annex 7.11 to 7.19: the first of these refusals that applies, else 0.
     fn add_refusal(&self, id: u64, start: u64, period: u64, deadline: u64) -> u32 {
-        // "5 for a planner not sound"
+        // 5: the planner is not sound
         if self.is_closed() {
             return 5;
         }
-        // "6 for a bad id": "Ids are 1 to 32,767"
+        // 6: the id is not 1 to 32,767
         if !(1..=32_767).contains(&id) {
             return 6;
         }
-        // "7 for an id held"
+        // 7: the id is held
         if self.holds(id) {
             return 7;
         }
-        // "8 with 64 streams held"
+        // 8: 64 streams are held
         if self.streams.len() >= MOST_STREAMS {
             return 8;
         }
-        // "9 for a bad P": "P is 1 to 240 and divides F"
+        // 9: P is not 1 to 240, or does not divide F
         if !(1..=240).contains(&period) || self.superframe % period != 0 {
             return 9;
         }
-        // "10 for a bad D": "D is 1 to P"
+        // 10: D is not 1 to P
         if !(1..=period).contains(&deadline) {
             return 10;
         }
-        // "11 for S before now or after now + 239"
+        // 11: S is before now or after now + 239
         if start < self.now() || start > self.now() + 239 {
             return 11;
         }
         let table = self.with(id, start, period, deadline);
-        // "12 if the table with it breaks the demand rule"
+        // 12: the table with it breaks the demand rule
         if !table.demand_rule() {
             return 12;
         }
-        // "13 if it breaks the start rule"
+        // 13: it breaks the start rule
         if !table.start_rule() {
             return 13;
         }
@@ -164,8 +163,8 @@ impl Planner {
         table
     }
 
-    /// "It refuses 5, then 14 for an id not held. The stream's waiting packet
-    /// goes with it."
+    /// Annex 7.22, 7.23: 5, then 14 for an id not held. The stream's unserved
+    /// packet goes with it.
     pub fn remove(&mut self, id: u64) -> u32 {
         if self.is_closed() {
             return 5;
@@ -177,10 +176,10 @@ impl Planner {
         0
     }
 
-    /// "It refuses 5; .. 16 for a buffer shorter than B; 17 if the start is
-    /// after 1,000,000,000. The answer is the start and the count n; the ids
-    /// stand in the first n places, and later places are untouched." With no
-    /// stream the cap is all that the lazy rule is left with (document 02, i).
+    /// Annex 7.24 to 7.32: 5; 16 for a buffer shorter than B; 17 if the start
+    /// is after 1,000,000,000. It gives the start and the count n; the ids
+    /// stand in the first n places, and later places are untouched. With no
+    /// stream the cap is all that the lazy rule is left with.
     pub fn round(&mut self, buffer: &mut [u16]) -> Result<(u64, usize), u32> {
         if self.is_closed() {
             return Err(5);
@@ -201,16 +200,16 @@ impl Planner {
         Ok((start, ids.len()))
     }
 
-    /// "Slots: of the packets that may ride, the first B by due time",
-    /// "written in that order"; "Packets due at the same time now go by earlier
-    /// release, then by smaller id" (document 02, ii).
+    /// Annex 5.2, 5.3: of the packets that may ride the first B by due time,
+    /// in that order; those due at the same time go by earlier release, then
+    /// by smaller id.
     pub fn slot_ids(&self, start: u64) -> Vec<u64> {
         self.first_riders(start, |stream| (stream.due(), stream.release, stream.id))
     }
 
-    /// The slots of document 01, "by due time, then id", for counting the
-    /// rounds that tell the two orders apart; no answer comes from here.
-    pub fn slot_ids_before_ii(&self, start: u64) -> Vec<u64> {
+    /// The slots by due time and then id alone, for counting the rounds that
+    /// tell the two orders apart; no answer comes from here.
+    pub fn slot_ids_by_due_then_id(&self, start: u64) -> Vec<u64> {
         self.first_riders(start, |stream| (stream.due(), stream.id))
     }
 
@@ -229,7 +228,7 @@ impl Planner {
         riders.iter().map(|stream| stream.id).collect()
     }
 
-    /// "each stream served passes to its next packet"
+    /// Annex 5.6: each stream served passes to its next packet.
     fn serve(&mut self, ids: &[u64]) {
         for stream in &mut self.streams {
             if ids.contains(&stream.id) {
@@ -238,7 +237,7 @@ impl Planner {
         }
     }
 
-    /// "the sum, over streams with D ≤ t, of floor((t - D) / P) + 1"
+    /// Annex 4.1: the sum, over streams with D ≤ t, of floor((t - D) / P) + 1.
     fn demand(&self, t: u64) -> u64 {
         self.streams
             .iter()
@@ -247,7 +246,8 @@ impl Planner {
             .sum()
     }
 
-    /// "Demand rule: for every length t ≥ 1, the sum .. is at most B×t."
+    /// Annex 4.2: the demand rule: for every length t ≥ 1 the demand is at
+    /// most B×t.
     ///
     /// Why t = 1 to F is far enough: a stream with D > t adds nothing, and as
     /// D ≤ P its floor is then -1, so the formula may be read for all streams
@@ -258,8 +258,8 @@ impl Planner {
         (1..=self.superframe + MARGIN).all(|t| self.demand(t) <= self.slots * t)
     }
 
-    /// "Future demand h(t): the same sum with t minus the due time d of the
-    /// unserved packet, over streams with d ≤ t".
+    /// Annex 4.3: the future demand h(t), the same sum with t minus the due
+    /// time d of the unserved packet, over streams with d ≤ t.
     fn future_demand(&self, t: u64) -> u64 {
         self.streams
             .iter()
@@ -281,21 +281,22 @@ impl Planner {
         self.now() + 1..=self.now() + 480 + self.superframe + MARGIN
     }
 
-    /// "Start rule: h(t) ≤ B×(t - now) for every t > now."
+    /// Annex 4.4: the start rule: h(t) ≤ B×(t - now) for every t > now.
     pub fn start_rule(&self) -> bool {
         self.times()
             .all(|t| self.future_demand(t) <= self.slots * (t - self.now()))
     }
 
-    /// "The cap on the next start becomes L + 1 + G in place of L + G".
+    /// Annex 4.5: the cap on the next start, G after the end of the last
+    /// round.
     pub fn cap(&self) -> u64 {
         self.last + 1 + self.gap
     }
 
-    /// "Lazy rule: the next start is the least of" the cap "and all
-    /// t - ceil(h(t) / B) with h(t) > 0." No due time is at now or before, so
-    /// h(t) = 0 up to now. Nothing is raised to now: for a sound planner the
-    /// least is never below it, and one that were would be a fault here.
+    /// Annex 4.6: the lazy rule: the next start is the least of the cap and
+    /// all t - ceil(h(t) / B) with h(t) > 0. No due time is at now or before,
+    /// so h(t) = 0 up to now. Nothing is raised to now: for a sound planner
+    /// the least is never below it, and one that were would be a fault here.
     fn next_start(&self) -> u64 {
         let mut least = self.cap();
         for t in self.times() {
@@ -308,11 +309,10 @@ impl Planner {
         least
     }
 
-    /// "A planner is sound if (a) all values are in range, each P divides F
-    /// and ids differ; (b) each unserved packet held is due after now and
-    /// released no later than now + 239; (c) the demand rule and (d) the
-    /// start rule hold". There is no queue here, so (e) is void. Used by the
-    /// self-test only.
+    /// Annex 3.5 to 3.10: (a) all values are in range, each P divides F and
+    /// ids differ; (b) each unserved packet is due after now and released at
+    /// now + 239 or before; (c) the demand rule and (d) the start rule hold.
+    /// There is no queue here, so (e) is void. Used by the self-test only.
     pub fn sound(&self) -> bool {
         self.in_range()
             && self
@@ -341,8 +341,8 @@ impl Planner {
     }
 }
 
-/// "It refuses 18 if any period is not 1 to 240, 19 if the least common
-/// multiple is above 5,040, both with value 0. No periods give 1." The answer
+/// Annex 9.1 to 9.4: 18 if any period is not 1 to 240, 19 if the least common
+/// multiple is above 5,040, both with value 0. No periods give 1. The answer
 /// and the value.
 pub fn superframe(periods: &[u8]) -> (u32, u64) {
     if !periods.iter().all(|period| (1..=240).contains(period)) {

@@ -1,11 +1,11 @@
-//! The command program of document 01: lines in, one line out for each.
+//! The command program: lines in, one line out for each.
 
 use crate::planner::Planner;
 
-/// "63 bytes at most before it"
+/// Annex 11.8: the most bytes of a line, its LF not counted.
 const MOST_BYTES: usize = 63;
 
-/// "O,B,F,G,T / A,id,S,P,D / D,id / R"
+/// Annex 11.6: O,B,F,G,T and A,id,S,P,D and D,id and R.
 enum Command {
     Open([u64; 4]),
     Add([u64; 4]),
@@ -20,7 +20,7 @@ pub struct Program {
 }
 
 impl Program {
-    /// "Until an O succeeds the planner is closed."
+    /// Annex 11.10: until an O succeeds the planner is closed.
     pub fn new() -> Program {
         Program {
             planner: Planner::closed(),
@@ -29,8 +29,8 @@ impl Program {
     }
 
     /// Reads one line, given without its LF, and returns the line printed.
-    /// "Any other line, the empty one too, prints E,20 and its line number
-    /// from 1."
+    /// Annex 11.20: to a line that is no command, also an empty one, E,20 and
+    /// its line number from 1.
     pub fn line(&mut self, line: &[u8]) -> String {
         self.lines += 1;
         match command(line) {
@@ -42,7 +42,7 @@ impl Program {
         }
     }
 
-    /// "A refused O closes it."
+    /// Annex 11.12, 11.13: a refused O closes the planner.
     fn open(&mut self, [slots, superframe, gap, time]: [u64; 4]) -> String {
         let (planner, answer) = Planner::open(slots, superframe, gap, time);
         self.planner = planner;
@@ -59,8 +59,8 @@ impl Program {
         format!("D,{id},{answer}")
     }
 
-    /// "Fields: letter, (id), answer, then for R start, n and n ids. A refused
-    /// R is R and its number."
+    /// Annex 11.17, 11.18: held, the answer 0, the start, n and n ids;
+    /// refused, its number alone.
     fn round(&mut self) -> String {
         let mut buffer = [0_u16; 64];
         match self.planner.round(&mut buffer) {
@@ -81,7 +81,7 @@ fn command(line: &[u8]) -> Option<Command> {
     if line.len() > MOST_BYTES {
         return None;
     }
-    // "fields in a fixed order parted by commas, no quoting"
+    // Annex 11.5: fields in a fixed order, parted by commas.
     let fields: Vec<&[u8]> = line.split(|byte| *byte == b',').collect();
     match fields.as_slice() {
         [b"O", b, f, g, t] => Some(Command::Open(four([*b, *f, *g, *t])?)),
@@ -97,8 +97,8 @@ fn four([a, b, c, d]: [&[u8]; 4]) -> Option<[u64; 4]> {
     Some([number(a)?, number(b)?, number(c)?, number(d)?])
 }
 
-/// "A number has no sign and no leading zero unless it is 0, and fits 32
-/// bits."
+/// Annex 11.4, 11.7: digits alone, with no leading zero unless it is 0, and at
+/// most 4,294,967,295.
 fn number(field: &[u8]) -> Option<u64> {
     let digits = !field.is_empty() && field.iter().all(u8::is_ascii_digit);
     if !digits || (field[0] == b'0' && field.len() > 1) {
@@ -114,8 +114,8 @@ fn number(field: &[u8]) -> Option<u64> {
     (value <= u64::from(u32::MAX)).then_some(value)
 }
 
-/// "Lines end in LF (the last may lack it)": input that ends in LF has no
-/// further empty line, and empty input has no line.
+/// Annex 11.1, 11.2: lines end in LF, which the last may lack: input that ends
+/// in LF has no further empty line, and empty input has no line.
 pub fn lines(input: &[u8]) -> Vec<&[u8]> {
     let mut lines: Vec<&[u8]> = input.split(|byte| *byte == b'\n').collect();
     if lines.last().is_some_and(|line| line.is_empty()) {
@@ -124,7 +124,7 @@ pub fn lines(input: &[u8]) -> Vec<&[u8]> {
     lines
 }
 
-/// The whole output for the whole input. "Empty input prints nothing."
+/// The whole output for the whole input; empty input prints nothing.
 pub fn run(input: &[u8]) -> String {
     let mut program = Program::new();
     let mut output = String::new();

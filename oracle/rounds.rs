@@ -1,5 +1,6 @@
-//! Counts the rounds of a script that show the order of document 02, (ii), or
-//! the cap of (v): those that the rules before would have held otherwise.
+//! Counts the rounds of a script that show the order among packets due
+//! together, or the cap: those that would be held otherwise by due time and
+//! then id alone, or with the gap counted from a round's start.
 
 use crate::count;
 use crate::planner::Planner;
@@ -7,7 +8,8 @@ use crate::program::{self, Program};
 
 /// R lines, those of them held, and of these the ones that would have other
 /// ids, or the same ids in another order, by due time and then id alone, and
-/// the ones at L + 1 + G, each of which would be held at L + G before (v).
+/// the ones at L + 1 + G, each of which would be held at L + G if the gap were
+/// counted from a round's start.
 #[derive(Default)]
 pub struct Rounds {
     asked: u64,
@@ -41,14 +43,14 @@ impl Rounds {
     /// Counts one held round, by the planner before it and its start.
     fn add(&mut self, before: &Planner, start: u64) {
         self.held += 1;
-        self.add_order(before.slot_ids(start), before.slot_ids_before_ii(start));
+        self.add_order(before.slot_ids(start), before.slot_ids_by_due_then_id(start));
         if start == before.cap() {
             self.at_cap += 1;
             self.at_cap_with_streams += u64::from(!before.streams.is_empty());
         }
     }
 
-    /// Counts its ids against those of the order before (ii).
+    /// Counts its ids against those by due time and then id alone.
     fn add_order(&mut self, mut ids: Vec<u64>, mut ids_before: Vec<u64>) {
         if ids == ids_before {
             return;

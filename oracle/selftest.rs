@@ -1,6 +1,6 @@
-//! Checks of the oracle itself: the cases that the papers write out, and
-//! generated scripts against a third way to the same answers, a simulation of
-//! rounds at every start.
+//! Checks of the oracle itself: cases that are written out, and generated
+//! scripts against a third way to the same answers, a simulation of rounds at
+//! every start.
 
 use crate::count::{self, Counts};
 use crate::generate;
@@ -14,7 +14,7 @@ use std::process::ExitCode;
 pub fn run() -> ExitCode {
     let checks: [(&str, fn() -> bool); 18] = [
         ("the three rounds and the other tables on the edge", tables),
-        ("figure 9 of document 004", figure_9),
+        ("figure 9 of the Blink paper", figure_9),
         ("superframe", superframes),
         ("lines", lines),
         ("numbers", numbers),
@@ -45,7 +45,7 @@ pub fn run() -> ExitCode {
     }
 }
 
-/// Input and output lines, written as in document 01 with " / " between.
+/// Input and output lines, written with " / " between.
 fn gives(input: &str, output: &str) -> bool {
     let printed = program::run(input.replace(" / ", "\n").as_bytes());
     let wanted: String = output
@@ -61,28 +61,28 @@ fn gives(input: &str, output: &str) -> bool {
     printed == wanted
 }
 
-/// "Tables on the edge"
+/// Tables on the edge. A stream is written (S,P,D).
 fn tables() -> bool {
     let three_rounds = gives(
         "O,2,6,6,0 / A,1,1,3,2 / A,2,1,6,6 / A,3,2,6,5 / R / R / R / D,9 / X",
         "O,0 / A,1,0 / A,2,0 / A,3,0 / R,0,2,2,1,2 / R,0,5,2,1,3 / R,0,8,2,1,2 / D,9,14 / E,20,9",
     );
-    // "B=1, F=2, G=9, T=0: stream 1 (1,2,1) goes in; 2 (2,2,1) gets 12."
+    // B=1, F=2, G=9, T=0: 1 as (1,2,1) goes in, and 2 as (2,2,1) gets 12.
     let demand = gives("O,1,2,9,0 / A,1,1,2,1 / A,2,2,2,1", "O,0 / A,1,0 / A,2,12");
-    // "B=1, F=10, G=20, T=0, streams 1 and 2 both (1,10,10): round at 9 sends
-    // 1. Then 3 as (10,10,1) gets 13; as (11,10,1) 0."
+    // B=1, F=10, G=20, T=0, 1 and 2 each (1,10,10): a round at 9 sends 1. Then
+    // 3 gets 13 as (10,10,1), and 0 as (11,10,1).
     let start = gives(
         "O,1,10,20,0 / A,1,1,10,10 / A,2,1,10,10 / R / A,3,10,10,1 / A,3,11,10,1",
         "O,0 / A,1,0 / A,2,0 / R,0,9,1,1 / A,3,13 / A,3,0",
     );
-    // "B=1, F=240, G=20, T=0, one (1,240,240)": rounds with it and then with
-    // no slot, and "one stream with period 240 now gives rounds at 21 and 42".
+    // B=1, F=240, G=20, T=0, 1 as (1,240,240): a round at 21 with it, then one
+    // at 42 with no slot.
     let gap = gives(
         "O,1,240,20,0 / A,1,1,240,240 / R / R",
         "O,0 / A,1,0 / R,0,21,1,1 / R,0,42,0",
     );
-    // "T=999,999,999, B=1, F=1, G=1, one (1,000,000,000,1,1): a round, then
-    // 17."
+    // B=1, F=1, G=1, T=999,999,999, 1 as (1,000,000,000,1,1): a round at the
+    // last start with it, then 17.
     let end = gives(
         "O,1,1,1,999999999 / A,1,1000000000,1,1 / R / R",
         "O,0 / A,1,0 / R,0,1000000000,1,1 / R,17",
@@ -90,8 +90,8 @@ fn tables() -> bool {
     three_rounds && demand && start && gap && end
 }
 
-/// "B=5, F=100, G=20, T=0, nine of (8,4,3), then seven of (1,25,2): the first
-/// fifteen go in, the sixteenth gets 12"
+/// The Blink paper, figure 9. B=5, F=100, G=20, T=0, nine of (8,4,3), then
+/// seven of (1,25,2): the first fifteen go in, the sixteenth gets 12.
 fn figure_9() -> bool {
     let mut input = String::from("O,5,100,20,0");
     let mut output = String::from("O,0");
@@ -104,8 +104,8 @@ fn figure_9() -> bool {
     gives(&input, &output)
 }
 
-/// "Superframe of 5, 7, 15 is 105; of 240, 7, 9 is 5,040; of 240, 7, 11 gets
-/// 19." "No periods give 1." 18 is tested before 19.
+/// Annex 9.2 to 9.4: 5, 7, 15 give 105; 240, 7, 9 give 5,040; 240, 7, 11 get
+/// 19; no periods give 1. 18 is tested before 19.
 fn superframes() -> bool {
     planner::superframe(&[5, 7, 15]) == (0, 105)
         && planner::superframe(&[240, 7, 9]) == (0, 5_040)
@@ -115,7 +115,8 @@ fn superframes() -> bool {
         && planner::superframe(&[241]) == (18, 0)
 }
 
-/// "Lines end in LF (the last may lack it), 63 bytes at most before it".
+/// Annex 11.1, 11.2 and 11.8: lines end in LF, which the last may lack, with
+/// at most 63 bytes before it.
 fn lines() -> bool {
     let long = format!("{}\nR", "R".repeat(300));
     let cut = format!("{}R\nR\n", " ".repeat(63));
@@ -129,8 +130,8 @@ fn lines() -> bool {
         && program::run(cut.as_bytes()) == "E,20,1\nR,5\n"
 }
 
-/// "A number has no sign and no leading zero unless it is 0, and fits 32
-/// bits."
+/// Annex 11.4, 11.7: no sign, no leading zero unless it is 0, and at most
+/// 4,294,967,295.
 fn numbers() -> bool {
     gives(
         "D,0 / D,00 / D,01 / D,+1 / D,-1",
@@ -147,9 +148,10 @@ fn numbers() -> bool {
     )
 }
 
-/// "Until an O succeeds the planner is closed. A refused O closes it." A
-/// damaged O does not. At the clock's end streams still go in, and a round
-/// refused with 17 may be held later, if an urgent stream comes.
+/// Annex 11.10, 11.13: until an O succeeds the planner is closed, and a
+/// refused O closes it; a damaged one does not. At the clock's end streams
+/// still go in, and a round refused with 17 may be held later, if an urgent
+/// stream comes.
 fn closed_and_end() -> bool {
     gives("A,0,0,0,0 / D,0 / R", "A,0,5 / D,0,5 / R,5")
         && gives(
@@ -170,8 +172,8 @@ fn closed_and_end() -> bool {
         )
 }
 
-/// "A round on an empty table is now held at" the cap "with no slots. It also
-/// applies after the last stream has been removed." The cap is L + 1 + G.
+/// Annex 7.32: with no stream, also after the last was removed, a round is
+/// held at the cap, L + 1 + G, with no slots.
 fn no_streams() -> bool {
     gives(
         "O,2,6,6,0 / R / R / R / A,1,22,3,2 / R / D,1 / R",
@@ -180,11 +182,12 @@ fn no_streams() -> bool {
         && gives("O,2,6,2,999999998 / R", "O,0 / R,17")
 }
 
-/// "The gap runs from the end of a round": with the shortest and the longest
-/// gap, and by hand around the cap, with T = 0 and G = 5, where it is 6: a
-/// stream (1,12,D) is due at D + 1, so that a round could wait until D. It is
-/// held at 5 with D = 5, and at 6 with D = 6 and D = 7. Its next packet is due
-/// at 13 + D, so the next round, at 6 after the one before, is forced too.
+/// Annex 4.5: the gap runs from the end of a round. With the shortest and the
+/// longest gap, and by hand around the cap, with T = 0 and G = 5, where it is
+/// 6: a stream (1,12,D) is due at D + 1, so that a round could wait until D.
+/// It is held at 5 with D = 5, and at 6 with D = 6 and D = 7. Its next packet
+/// is due at 13 + D, so the next round, at 6 after the one before, is forced
+/// too.
 fn gaps() -> bool {
     let around = |deadline: u32, first: u32| {
         gives(
@@ -199,8 +202,8 @@ fn gaps() -> bool {
         && around(7, 6)
 }
 
-/// "Packets due at the same time now go by earlier release, then by smaller
-/// id." Worked by hand, T = 0 and G = 20 throughout:
+/// Annex 5.2: packets due at the same time go by earlier release, then by
+/// smaller id. Worked by hand, T = 0 and G = 20 throughout:
 ///
 /// B = 1: 1 released at 5, 2 at 3 and 3 at 1, all due at 9. h(9) = 3, so the
 /// start is 9 - 3 = 6 (h(21) = 6 allows 15), then 7 and 8, and all three are
@@ -229,8 +232,8 @@ fn equals() -> bool {
     )
 }
 
-/// "16 for a buffer shorter than B", before 17, also where nothing is to be
-/// written; "later places are untouched".
+/// Annex 7.26, 7.29: 16 for a buffer shorter than B, before 17, also where
+/// nothing is to be written; later places are untouched.
 fn buffer() -> bool {
     let (mut planner, _) = Planner::open(2, 1, 1, planner::LAST_START - 3);
     let mut short = [7_u16; 1];
@@ -247,7 +250,7 @@ fn buffer() -> bool {
     none && too_short && held && written && still_short && late
 }
 
-/// The first of the three rounds, "R,0,2,2,1,2": start 2, B = 2, ids 1 and 2,
+/// The first of the three rounds, `R,0,2,2,1,2`: start 2, B = 2, ids 1 and 2,
 /// as bytes and back. A packet with no id is six bytes.
 fn first_packet() -> bool {
     let bytes = [0, 0, 0, 2, 2, 2, 0, 1, 0, 2];
@@ -290,7 +293,8 @@ fn reads(packet: &[u8], (start, slots, n): (u64, u64, u64)) -> bool {
     packet::read(packet) == wanted && packet::ids_part(packet) == &packet[6..]
 }
 
-/// "A refused read gives zeros, and the second call then an empty part."
+/// Annex 10.7, 10.8: a refused read gives zeros, and the second call then an
+/// empty part.
 fn read_refused(packet: &[u8], answer: u32) -> bool {
     let wanted = Read {
         answer,
@@ -301,8 +305,8 @@ fn read_refused(packet: &[u8], answer: u32) -> bool {
     packet::read(packet) == wanted && packet::ids_part(packet).is_empty()
 }
 
-/// "26 for a length other than 6 + 2×n (or under 6)", tested before 27;
-/// "the whole longer buffer of a written packet reads as 26".
+/// Annex 10.6: 26 for a length under 6 or other than 6 + 2×n, tested before
+/// 27, and so for a whole buffer that is longer than the packet written to it.
 fn packet_lengths() -> bool {
     let good = bytes(2, 3, 3, &[1, 2, 3]);
     let bad = bytes(1_000_000_001, 0, 3, &[0, 0, 40_000]);
@@ -326,8 +330,8 @@ fn packet_lengths() -> bool {
         && read_refused(&bytes(2, 3, 4, &[1, 2, 3]), 26)
 }
 
-/// "27 for a value not good", on both sides of each bound; "n = 255 with
-/// length 516 is 27".
+/// Annex 10.6: 27 for a value not good, on both sides of each bound; n = 255
+/// with its length, 516, is 27.
 fn packet_values() -> bool {
     let all = first_ids(255);
     let start = reads(&bytes(1_000_000_000, 1, 0, &[]), (1_000_000_000, 1, 0))
@@ -363,7 +367,7 @@ fn packet_values() -> bool {
 }
 
 /// The answer to a write; whatever it is, the bytes after the packet's end are
-/// as they were, and "a refused write writes nothing".
+/// as they were, and a refused write writes nothing.
 fn write_answer(start: u64, slots: u64, ids: &[u16], length: usize) -> Option<u32> {
     let mut buffer = vec![7; length];
     let answer = packet::write(start, slots, ids, &mut buffer);
@@ -376,8 +380,8 @@ fn write_answer(start: u64, slots: u64, ids: &[u16], length: usize) -> Option<u3
     (untouched && read_back).then_some(answer)
 }
 
-/// The writer's 27, on both sides of each bound; "B = 261 is 27, not byte 5",
-/// "any id list longer than B is 27 (256 ids too)".
+/// Annex 10.4: the writer's 27, on both sides of each bound; B = 261 is 27 and
+/// not byte 5, and any list of ids longer than B is 27, 256 ids too.
 fn packet_writes() -> bool {
     let all = first_ids(300);
     let gives = |start, slots, ids: &[u16], answer| {
@@ -411,7 +415,7 @@ fn packet_writes() -> bool {
     start && slots && n && long && ids && gives(2, 64, &twice, 27) && gives(2, 2, &[9, 9], 27)
 }
 
-/// "27, then 28 for a buffer shorter than needed".
+/// Annex 10.4: 27, then 28 for a buffer shorter than needed.
 fn packet_buffer() -> bool {
     let short = (0..10).all(|length| {
         write_answer(2, 2, &[1, 2], length) == Some(28)
@@ -459,9 +463,9 @@ fn simulated_script(script: &[u8]) -> bool {
     true
 }
 
-/// The first rule "fails exactly if no plan serves the table with every start
-/// and the moment at 0; where it holds, the second fails exactly if no plan
-/// from now serves the planner's table".
+/// Annex 12.5: 12 exactly if no plan serves the table with every start and the
+/// moment at 0; else 13 exactly if no plan from now serves the planner's
+/// table.
 fn add_as_simulated(before: &Planner, line: &[u8], answer: usize) -> bool {
     if ![0, 12, 13].contains(&answer) {
         return true;
@@ -530,8 +534,8 @@ fn slots_in_order(before: &Planner, start: u64, printed: &str) -> bool {
     in_order && first && (out.is_empty() || listed.len() as u64 == before.slots)
 }
 
-/// Earlier due; "due at the same time" "by earlier release, then by smaller
-/// id".
+/// Annex 5.2: earlier due; due at the same time, earlier released; with equal
+/// releases too, the smaller id.
 fn goes_before(one: &Stream, other: &Stream) -> bool {
     if one.due() != other.due() {
         return one.due() < other.due();
@@ -561,8 +565,8 @@ fn served(table: &Planner, moment: u64) -> bool {
 }
 
 /// A script of 20,000 lines gives each answer that can occur a dozen times,
-/// and none that cannot: 15 went with document 02, (i); the program's buffer
-/// is never too short; 18 and 19 are the superframe's.
+/// and none that cannot: 15 is not given (Annex 7.33); the program's buffer is
+/// never too short (Annex 11.19); 18 and 19 are the superframe's.
 fn every_answer() -> bool {
     let counts = Counts::of(&program::run(&generate::script(1, 20_000)));
     let possible = (0..=14).chain([17, 20]);
@@ -575,8 +579,7 @@ fn every_answer() -> bool {
 
 /// Of the rounds held in such a script at least a tenth would be listed
 /// otherwise by due time and then id alone, and at least a fifth are held at
-/// the cap: a comparison that seldom meets document 02, (ii) or (v), shows
-/// little.
+/// the cap: a comparison that seldom meets such rounds shows little.
 fn changes_shown() -> bool {
     let rounds = Rounds::of(&generate::script(1, 20_000));
     rounds.listed_otherwise() * 10 >= rounds.held && rounds.at_cap * 5 >= rounds.held

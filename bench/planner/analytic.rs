@@ -1,4 +1,4 @@
-// The analytic way: the sums of document 01's rules as they stand, with a division for each stream and each length that can matter. Those
+// The analytic way: the sums of the rules (Annex 4.1 to 4.6) as they stand, with a division for each stream and each length that can matter. Those
 // are, for the demand rule, the lengths up to the superframe F; for future demand, the times up to F after the last due time held: from
 // there on each F more adds the packets of a superframe, at most B × F where the demand rule holds.
 use super::{mixed, Host, Offer};

@@ -1,4 +1,4 @@
-// Document 004's Algorithms 1 to 4 with nothing tested, as `plain`, on a queue made for speed: links of 8 bits, heads and places apart, no
+// The Blink paper's Algorithms 1 to 4 with nothing tested, as `plain`, on a queue made for speed: links of 8 bits, heads and places apart, no
 // modulo in a walk, no keys kept, empty buckets passed eight at a time. Due times are looked at over a busy length from the first one on.
 use super::{mixed, Host, Offer};
 
@@ -101,7 +101,7 @@ impl Fast {
         p
     }
 
-    // In order of releases, then ids, within the bucket, so that ties go as in 02 (ii).
+    // In order of releases, then ids, within the bucket, so that ties go as Annex 5.2 says.
     fn file_in_order(&mut self, x: usize, bucket: usize) {
         let rank = |x: usize| u64::from(get(&self.releases, x)) << 16 | u64::from(get(&self.ids, x));
         let own = rank(x);
@@ -285,7 +285,7 @@ impl Host for Fast {
         mixed(start, &buffer[..n])
     }
 
-    // Algorithms 3 and 4, and Algorithm 1 once more for document 01's start rule, which document 004 has not.
+    // Algorithms 3 and 4, and Algorithm 1 once more for the start rule (Annex 4.4), which the Blink paper has not.
     fn add(&mut self, offer: Offer) -> u32 {
         let (busy, low, bucket) = (self.busy, self.low, self.bucket);
         let x = self.take_in(offer);

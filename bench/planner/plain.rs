@@ -1,5 +1,5 @@
-// Document 004's Algorithms 1 to 4 with nothing tested, neither the planner nor what is offered, and no index.
-// The queue is the one of its section 5.1; lists are in order of releases, then ids, where slots are given, so that ties go as in 02 (ii).
+// The Blink paper's Algorithms 1 to 4 with nothing tested, neither the planner nor what is offered, and no index.
+// The queue is the one of its section 5.1; lists are in order of releases, then ids, where slots are given, so that ties go as Annex 5.2 says.
 use super::{mixed, Host, Offer};
 
 const BUCKETS: usize = 480;
@@ -257,7 +257,7 @@ impl Host for Plain {
         mixed(start, &buffer[..n])
     }
 
-    // Algorithms 3 and 4, and Algorithm 1 once more for document 01's start rule, which document 004 has not.
+    // Algorithms 3 and 4, and Algorithm 1 once more for the start rule (Annex 4.4), which the Blink paper has not.
     fn add(&mut self, offer: Offer) -> u32 {
         let busy = self.busy;
         let x = self.take_in(offer);

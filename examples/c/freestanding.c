@@ -1,5 +1,5 @@
-/* Document 01's example with no C library: memcpy and memset are all that the proved libraries need from outside. Exits with 0 if each answer
- * is the one expected, else with the number of the first that is not. For x86-64 Linux. */
+/* The example of crates/rounds/stdin with no C library: memcpy and memset are all that the proved libraries need from outside. Exits with 0 if
+ * each answer is the one expected, else with the number of the first that is not. For x86-64 Linux. */
 #include "packets.h"
 #include "planner.h"
 #include "superframe.h"

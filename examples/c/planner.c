@@ -1,4 +1,4 @@
-/* The planner's lines of document 01's example, by a program that keeps one planner and lends it to each call. Each call runs on a painted
+/* The planner's lines of the example in crates/rounds/stdin, by a program that keeps one planner and lends it to each call. Each call runs on a painted
  * stack; how much of it the calls wrote goes to standard error at the end. */
 #include <stdio.h>
 #include <string.h>

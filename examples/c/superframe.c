@@ -1,4 +1,4 @@
-/* The three superframe cases of document 01. Prints 105, 5040 and refusal 19. */
+/* Three superframes (Annex 9.3, 9.4). Prints 105, 5040 and refusal 19. */
 #include <stdio.h>
 
 #include "superframe.h"

@@ -1,4 +1,4 @@
-// From a round to the air and back, as examples/c/packet.c: the three rounds of document 01's example, each written as a packet and read. A line a
+// From a round to the air and back, as examples/c/packet.c: the three rounds of crates/rounds/stdin, each written as a packet and read. A line a
 // round: the packet's bytes in hex, then what was read, as ANSWER,START,B,N and the ids.
 use std::mem::size_of;
 

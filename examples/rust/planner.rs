@@ -1,4 +1,4 @@
-// The planner's lines of document 01's example, by a Rust program that keeps one planner and lends it to each call.
+// The planner's lines of the example in crates/rounds/stdin, by a Rust program that keeps one planner and lends it to each call.
 use std::mem::{align_of, offset_of, size_of};
 
 #[repr(C)]

@@ -1,0 +1,164 @@
+-- Twins answer alike: every list of calls has the same outcomes on both.
+use mathlib.Core.Path.{_≡_, refl, sym, ap, subst, _∙_}
+use mathlib.Core.Logic.{_↔_}
+use mathlib.Core.List.{List, [], _∷_, _++_}
+use Prim.Native.Nat.{ℕ}
+use native.Mathlib.Decide.{ℕ-discrete}
+use lib.ListN.{length, take, drop}
+use lib.Seq.{take-at}
+use Rattle.basics.specs.Refusals.{Refusal, answer-of}
+use Rattle.rules.specs.Facts.LazyStart.{lazy-unique}
+use Rattle.planner.specs.Content.{Content, content, cap-of, slots-of, streams-in}
+use Rattle.planner.specs.Sound.{Sound}
+use Rattle.planner.specs.Open.{Setting, zeros, open-refusals, IsFresh, IsOpened}
+use Rattle.planner.specs.AddRemove.{Offer, unsound, offer-refusals, rule-refusals, added, removed, not-held, IsSoundWith, IsChange}
+use Rattle.planner.specs.Round.{ids-at, rounded, short-buffer, round-refusals, IsRound, IsHeldRound}
+use Rattle.planner.specs.Start.{IsStart, StartsLate}
+use Rattle.planner.specs.Facts.Calls.{refused-change, success-change, refused-round, success-round}
+use Rattle.planner.specs.declared.Planner.{Planner}
+use Rattle.planner.specs.declared.Changed.{Changed}
+use Rattle.planner.specs.declared.Rounded.{Rounded}
+use Rattle.alike.specs.Twins.{AreTwins, Call, Outcome, change, round, Gives, opens, adds, removes, rounds, Makes, none, then, SameOutcomes}
+use Rattle.alike.specs.Facts.Refusals.{AreAlike, alike-itself, same-answers}
+
+-- equal planners are twins
+pub equal-are-twins : {p q : Planner} → p ≡ q → AreTwins p q
+equal-are-twins {p} e = subst (AreTwins p) e (record { same = refl; sound = (λ a. a, λ a. a) })
+
+-- sound planners that hold the same are twins
+pub sound-are-twins : {h k : Content} {p q : Planner} → h ≡ k → IsSoundWith h p → IsSoundWith k q → AreTwins p q
+sound-are-twins same one other = record { same = one .holds ∙ same ∙ sym (other .holds); sound = (λ _. other .sound, λ _. one .sound) }
+
+-- two openings with the same setting hand back the same planner
+pub same-opening : {s : Setting} {r r′ : Changed} → IsOpened s r → IsOpened s r′ → (r .answer ≡ r′ .answer) × (r .planner ≡ r′ .planner)
+same-opening {s} {r} {r′} is is′ = (is .answer ∙ sym (is′ .answer), go (ℕ-discrete (answer-of (open-refusals s)) 0))
+  where
+    go : Dec (answer-of (open-refusals s) ≡ 0) → r .planner ≡ r′ .planner
+    go (yes zero) = is .opened zero .whole ∙ sym (is′ .opened zero .whole)
+    go (no some) = is .closed some .whole ∙ sym (is′ .closed some .whole)
+
+module _ {p q : Planner} (twins : AreTwins p q) where
+  unsound-alike : (Sound p → ⊥) ↔ (Sound q → ⊥)
+  unsound-alike = (λ bad sound. bad (twins .sound .1 sound), λ bad sound. bad (twins .sound .0 sound))
+
+  -- planners handed back as they were
+  still-twins : {p′ q′ : Planner} → p′ ≡ p → q′ ≡ q → AreTwins p′ q′
+  still-twins {p′} {q′} e f = subst (λ (x : Planner). AreTwins x q′) (sym e) (subst (AreTwins p) (sym f) twins)
+
+  -- a change that both were asked for
+  module _ (rest : Content → List Refusal) (then-holds : Content → Content) {r s : Changed}
+      (is : IsChange (unsound p ∷ rest (content p)) p (then-holds (content p)) r) (is′ : IsChange (unsound q ∷ rest (content q)) q (then-holds (content q)) s)
+    where
+      pub change-answers : r .answer ≡ s .answer
+      unfolding AreAlike
+      change-answers =
+          is .answer
+          ∙ same-answers (unsound p ∷ rest (content p)) (unsound q ∷ rest (content p)) (refl, (unsound-alike, alike-itself (rest (content p))))
+          ∙ ap (λ (h : Content). answer-of (unsound q ∷ rest h)) (twins .same)
+          ∙ sym (is′ .answer)
+
+      pub change-twins : AreTwins (r .planner) (s .planner)
+      change-twins = go (ℕ-discrete (r .answer) 0)
+        where
+          go : Dec (r .answer ≡ 0) → AreTwins (r .planner) (s .planner)
+          go (yes zero) = sound-are-twins (ap then-holds (twins .same)) (success-change is zero) (success-change is′ (sym change-answers ∙ zero))
+          go (no some) = still-twins (refused-change is some) (refused-change is′ (λ zero. some (change-answers ∙ zero)))
+
+  -- Two rounds are the same: in answer, start, n and the ids in the first n places; from equal buffers in every place; and twins are left.
+  pub record IsSameRound (before before′ after after′ : List ℕ) (r s : Rounded) : Type 0 where
+    pub answer : r .answer ≡ s .answer
+    pub start : r .start ≡ s .start
+    pub n : r .n ≡ s .n
+    pub ids : take (r .n) after ≡ take (s .n) after′
+    pub buffer : before ≡ before′ → after ≡ after′
+    pub twins-after : AreTwins (r .planner) (s .planner)
+
+  module _ {before before′ after after′ : List ℕ} {r s : Rounded}
+      (long : length before ≡ length before′) (is : IsRound p before after r) (is′ : IsRound q before′ after′ s)
+    where
+      late-alike : StartsLate p ↔ StartsLate q
+      late-alike = (
+        λ late sound x start. late (twins .sound .1 sound) x (subst (λ (h : Content). IsStart h x) (sym (twins .same)) start),
+        λ late sound x start. late (twins .sound .0 sound) x (subst (λ (h : Content). IsStart h x) (twins .same) start),
+      )
+
+      short-alike : (short-buffer (content p) before .Applies) ↔ (short-buffer (content q) before′ .Applies)
+      short-alike = (λ short. rw (← long, ← (twins .same)) short, λ short. rw (long, twins .same) short)
+
+      round-answers : r .answer ≡ s .answer
+      unfolding AreAlike
+      round-answers =
+          is .answer
+          ∙ same-answers (round-refusals p before) (round-refusals q before′) (refl, (unsound-alike, (refl, (short-alike, (refl, (late-alike, tt))))))
+          ∙ sym (is′ .answer)
+
+      -- twins hold the same round, whatever stands in buffers of the same length
+      pub same-round : IsSameRound before before′ after after′ r s
+      same-round = go (ℕ-discrete (r .answer) 0)
+        where
+          first-n : {o : Planner} {old new : List ℕ} {x : Rounded} → IsHeldRound o old new x → take (x .n) new ≡ ids-at (content o) (x .start)
+          first-n {o} {old} {x = x} held =
+              ap (take (x .n)) (held .buffer) ∙ take-at (ids-at (content o) (x .start)) (drop (x .n) old) (x .n) (sym (held .n))
+
+          go : Dec (r .answer ≡ 0) → IsSameRound before before′ after after′ r s
+          go (yes zero) =
+              let held = success-round is zero in
+              let held′ = success-round is′ (sym round-answers ∙ zero) in
+              let h = content q in
+              let start : r .start ≡ s .start = lazy-unique (slots-of h) (cap-of h) (streams-in h) (r .start) (s .start)
+              (subst (λ (c : Content). IsStart c (r .start)) (twins .same) (held .start)) (held′ .start) in
+              let ids : ids-at (content p) (r .start) ≡ ids-at (content q) (s .start) = λ i. ids-at (twins .same i) (start i) in
+              let n : r .n ≡ s .n = held .n ∙ ap (length {A = ℕ}) ids ∙ sym (held′ .n) in
+              record {
+                answer = round-answers;
+                start = start;
+                n = n;
+                ids = first-n held ∙ ids ∙ sym (first-n held′);
+                buffer = λ same. held .buffer ∙ (λ i. ids i ++ drop (n i) (same i)) ∙ sym (held′ .buffer);
+                twins-after = sound-are-twins (λ i. rounded (twins .same i) (start i)) (held .planner) (held′ .planner);
+              }
+          go (no some) =
+              let refused = refused-round is some in
+              let refused′ = refused-round is′ (λ zero. some (round-answers ∙ zero)) in
+              record {
+                answer = round-answers;
+                start = refused .start ∙ sym (refused′ .start);
+                n = refused .n ∙ sym (refused′ .n);
+                ids = ap (λ (k : ℕ). take k after) (refused .n) ∙ ap (λ (k : ℕ). take k after′) (sym (refused′ .n));
+                buffer = λ same. refused .buffer ∙ same ∙ sym (refused′ .buffer);
+                twins-after = still-twins (refused .planner) (refused′ .planner);
+              }
+
+-- what add asks after 5 and leaves, by what the planner holds ..
+abbrev pub add-rest : Offer → Content → List Refusal
+add-rest o h = offer-refusals h o ++ rule-refusals (added h o)
+
+-- .. and remove
+abbrev pub remove-rest : ℕ → Content → List Refusal
+remove-rest id h = not-held id h ∷ []
+
+-- one call on twins: the same outcome, and twins are left
+pub same-outcome : {p p′ q q′ : Planner} {c : Call} {o o′ : Outcome} → AreTwins p p′ → Gives p c o q → Gives p′ c o′ q′ → (o ≡ o′) × AreTwins q q′
+same-outcome twins (opens s r is) (opens _ r′ is′) = let same = same-opening is is′ in (ap change (same .0), equal-are-twins (same .1))
+same-outcome twins (adds o r is) (adds _ r′ is′) =
+    let holds : Content → Content = λ h. added h o in
+    (ap change (change-answers twins (add-rest o) holds is is′), change-twins twins (add-rest o) holds is is′)
+same-outcome twins (removes id r is) (removes _ r′ is′) =
+    let holds : Content → Content = λ h. removed h id in
+    (ap change (change-answers twins (remove-rest id) holds is is′), change-twins twins (remove-rest id) holds is is′)
+same-outcome twins (rounds before after r is) (rounds _ after′ r′ is′) =
+    let same = same-round twins refl is is′ in
+    let buffer = same .buffer refl in
+    ((λ i. round (same .answer i) (same .start i) (same .n i) (buffer i)), same .twins-after)
+
+outcomes-alike : {p p′ q q′ : Planner} {cs : List Call} {os os′ : List Outcome} → AreTwins p p′ → Makes p cs os q → Makes p′ cs os′ q′
+    → (os ≡ os′) × AreTwins q q′
+outcomes-alike twins none none = (refl, twins)
+outcomes-alike twins (then gives more) (then gives′ more′) =
+    let (outcome, after) = same-outcome twins gives gives′ in
+    let (outcomes, left) = outcomes-alike after more more′ in
+    ((λ i. outcome i ∷ outcomes i), left)
+
+-- twins give the same outcomes for ever
+pub same-outcomes : SameOutcomes
+same-outcomes p p′ twins cs os os′ q q′ made made′ = outcomes-alike twins made made′

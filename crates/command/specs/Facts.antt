@@ -6,5 +6,8 @@ pub mod Numbers
 pub mod Fields
 pub mod Lines
 pub mod Commands
+pub mod Unique
 pub mod Runs
 pub mod LineEnds
+pub mod SameAnswers
+pub mod SameRuns

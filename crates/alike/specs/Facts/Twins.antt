@@ -25,6 +25,10 @@ use Rattle.alike.specs.Facts.Refusals.{AreAlike, alike-itself, same-answ
 pub equal-are-twins : {p q : Planner} → p ≡ q → AreTwins p q
 equal-are-twins {p} e = subst (AreTwins p) e (record { same = refl; sound = (λ a. a, λ a. a) })
 
+-- and either way round
+pub twins-back : {p q : Planner} → AreTwins p q → AreTwins q p
+twins-back twins = record { same = sym (twins .same); sound = (twins .sound .1, twins .sound .0) }
+
 -- sound planners that hold the same are twins
 pub sound-are-twins : {h k : Content} {p q : Planner} → h ≡ k → IsSoundWith h p → IsSoundWith k q → AreTwins p q
 sound-are-twins same one other = record { same = one .holds ∙ same ∙ sym (other .holds); sound = (λ _. other .sound, λ _. one .sound) }
@@ -37,12 +41,21 @@ same-opening {s} {r} {r′} is is′ = (is .answer ∙ sym (is′ .answer), go (
     go (yes zero) = is .opened zero .whole ∙ sym (is′ .opened zero .whole)
     go (no some) = is .closed some .whole ∙ sym (is′ .closed some .whole)
 
+-- Two rounds are the same: in answer, start, n and the ids in the first n places; from equal buffers in every place; and twins are left.
+pub record IsSameRound (before before′ after after′ : List ℕ) (r s : Rounded) : Type 0 where
+  pub answer : r .answer ≡ s .answer
+  pub start : r .start ≡ s .start
+  pub n : r .n ≡ s .n
+  pub ids : take (r .n) after ≡ take (s .n) after′
+  pub buffer : before ≡ before′ → after ≡ after′
+  pub twins-after : AreTwins (r .planner) (s .planner)
+
 module _ {p q : Planner} (twins : AreTwins p q) where
   unsound-alike : (Sound p → ⊥) ↔ (Sound q → ⊥)
   unsound-alike = (λ bad sound. bad (twins .sound .1 sound), λ bad sound. bad (twins .sound .0 sound))
 
   -- planners handed back as they were
-  still-twins : {p′ q′ : Planner} → p′ ≡ p → q′ ≡ q → AreTwins p′ q′
+  pub still-twins : {p′ q′ : Planner} → p′ ≡ p → q′ ≡ q → AreTwins p′ q′
   still-twins {p′} {q′} e f = subst (λ (x : Planner). AreTwins x q′) (sym e) (subst (AreTwins p) (sym f) twins)
 
   -- a change that both were asked for
@@ -63,15 +76,6 @@ module _ {p q : Planner} (twins : AreTwins p q) where
           go : Dec (r .answer ≡ 0) → AreTwins (r .planner) (s .planner)
           go (yes zero) = sound-are-twins (ap then-holds (twins .same)) (success-change is zero) (success-change is′ (sym change-answers ∙ zero))
           go (no some) = still-twins (refused-change is some) (refused-change is′ (λ zero. some (change-answers ∙ zero)))
-
-  -- Two rounds are the same: in answer, start, n and the ids in the first n places; from equal buffers in every place; and twins are left.
-  pub record IsSameRound (before before′ after after′ : List ℕ) (r s : Rounded) : Type 0 where
-    pub answer : r .answer ≡ s .answer
-    pub start : r .start ≡ s .start
-    pub n : r .n ≡ s .n
-    pub ids : take (r .n) after ≡ take (s .n) after′
-    pub buffer : before ≡ before′ → after ≡ after′
-    pub twins-after : AreTwins (r .planner) (s .planner)
 
   module _ {before before′ after after′ : List ℕ} {r s : Rounded}
       (long : length before ≡ length before′) (is : IsRound p before after r) (is′ : IsRound q before′ after′ s)

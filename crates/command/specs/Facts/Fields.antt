@@ -43,7 +43,7 @@ fields-cases (more {bytes = bytes} {rest = rest} {n = n} {ns = ns} numeral furth
     }
 
 -- a number ends before the next field
-ends-before : (bytes : List ℕ) {rest ns : List ℕ} → IsFields rest ns → Ends (bytes ++ rest) (length bytes)
+pub ends-before : (bytes : List ℕ) {rest ns : List ℕ} → IsFields rest ns → Ends (bytes ++ rest) (length bytes)
 ends-before bytes none = at-end (omega (arith, length-append bytes []))
 ends-before bytes (more {bytes = other} {rest = rest} numeral further) =
     let comma = getD-append-seam bytes 44 (other ++ rest) 0 in

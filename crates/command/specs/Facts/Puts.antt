@@ -154,3 +154,11 @@ pub put-length : {P : List ℕ → Type 0} {before after : List ℕ} {at r : ℕ
 put-length {before = before} {at = at} {r = r} put within =
     ap length (put .content) ∙ length-append (take at before) (put .bytes ++ drop r before)
     ∙ rw (length-append, length-take, length-drop) (omega (arith, put .ends, within))
+
+-- up to the end of what was put stands what stood before it, and then the bytes put
+pub put-written : {P : List ℕ → Type 0} {before after : List ℕ} {at r : ℕ} (put : IsPut P before after at r) → at ≤ length before
+    → take r after ≡ take at before ++ put .bytes
+put-written {before = before} {at = at} {r = r} put inside =
+    let front = take at before ++ put .bytes in
+    let long : length front ≡ r = length-append (take at before) (put .bytes) ∙ omega (arith, length-take-le at before inside, put .ends) in
+    ap (take r) (put .content ∙ sym (append-assoc (take at before) (put .bytes) (drop r before))) ∙ take-at front (drop r before) r long

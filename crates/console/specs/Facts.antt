@@ -4,3 +4,4 @@ pub mod Transcript
 pub mod Moves
 pub mod Session
 pub mod Turns
+pub mod SameTranscripts

@@ -11,11 +11,12 @@ use lib.ListN.{length, take, drop, length-take, length-drop, take-append-drop, d
 use lib.Seq.{length-take-le, take-at, take-take}
 use Rattle.command.specs.Lines.{IsLineEnd}
 use Rattle.command.specs.Runs.{CanRun, HasRun, HasRunLast}
+use Rattle.command.specs.Facts.Puts.{put-written}
 use Rattle.command.specs.declared.lines.Reached.{Reached}
 use Rattle.console.specs.Transcript.{HasNoEnd, Told, ToldAll}
 use Rattle.console.specs.Facts.LineEnds.{no-end-first, rest-no-end}
 use Rattle.console.specs.Facts.Moves.{first-64}
-use Rattle.console.specs.Facts.Transcript.{read-told, cut-told, step-answer, step-written, run-told, none-left, last-told}
+use Rattle.console.specs.Facts.Transcript.{read-told, cut-told, step-answer, run-told, none-left, last-told}
 use Rattle.console.specs.Session.{at-hand, HasTold, InBounds, CanAnswer, HasAnswered, HasAnsweredLast}
 use Rattle.console.specs.Session.{handed-over, IsMoved, CanKeep, IsKept, CanRefill, delivered, IsRefilled, IsTurned}
 use Rattle.console.specs.declared.Session.{Session}
@@ -76,7 +77,7 @@ module _ {s : Session} {input out : List ℕ} (can : CanAnswer s input out) wher
             let (step, (is, r-is)) = ran .last-line some (omega (arith, can .empty, can .room)) in
             let bytes = is .written .bytes in
             let put : take (r .end) after ≡ bytes =
-            ap (λ (t : Reached). take (t .end) after) r-is ∙ step-written is (omega (arith, can .empty, can .room))
+            ap (λ (t : Reached). take (t .end) after) r-is ∙ put-written (is .written) (omega (arith, can .empty, can .room))
             ∙ ap (λ (k : ℕ). take k out ++ bytes) (can .empty) in
             subst (ToldAll read) (ap (λ (l : List ℕ). written ++ l) (sym put))
             (last-told told no-end (λ nothing. some (ends nothing)) bytes (step .planner) (step-answer is))

@@ -11,7 +11,7 @@ use lib.Seq.{length-take-le, take-all, take-at, take-append-le}
 use Rattle.planner.specs.declared.Planner.{Planner}
 use Rattle.command.specs.Commands.{Says}
 use Rattle.command.specs.Facts.Commands.{too-long}
-use Rattle.command.specs.Facts.Puts.{put-length}
+use Rattle.command.specs.Facts.Puts.{put-length, put-written}
 use Rattle.command.specs.Step.{IsStep}
 use Rattle.command.specs.Runs.{part-of, Reaches}
 use Rattle.command.specs.Runs.Reaches.{none as reached-none, one-more}
@@ -152,14 +152,6 @@ module _ {p : Planner} {number : ℕ} {line before after : List ℕ} {at : ℕ} 
         written = is .written .property;
       }
 
-  pub step-written : at ≤ length before → take (r .end) after ≡ take at before ++ is .written .bytes
-  step-written inside =
-      let bytes = is .written .bytes in
-      let front = take at before ++ bytes in
-      let rest = drop (r .end) before in
-      let long : length front ≡ r .end = length-append (take at before) bytes ∙ omega (arith, length-take-le at before inside, is .written .ends) in
-      ap (take (r .end)) (is .written .content ∙ sym (append-assoc (take at before) bytes rest)) ∙ take-at front rest (r .end) long
-
 -- lines that were run, from an empty output on, are told, and the output keeps its length
 pub run-told : {bytes out after : List ℕ} {s t : Reached} → Reaches bytes s out t after → s .end ≡ 0 → t .end ≤ length out → (read written : List ℕ)
     → Told read written (s .planner) (s .number) (drop (s .from) bytes)
@@ -177,7 +169,7 @@ run-told {bytes} {out} {s = s} (one-more {t} {written = mid} reaches to line-end
     let split = subst (Told read (written ++ take (t .end) mid) (t .planner) (t .number)) cut-off so-far in
     let grown = line-told line rest answer (r .planner) (line-no-end bytes (t .from) to line-end) (step-answer is) split in
     let place : t .end ≤ length mid = omega (arith, same, within, earlier) in
-    let behind = append-assoc written (take (t .end) mid) answer ∙ ap (λ (l : List ℕ). written ++ l) (sym (step-written is place)) in (
+    let behind = append-assoc written (take (t .end) mid) answer ∙ ap (λ (l : List ℕ). written ++ l) (sym (put-written (is .written) place)) in (
       put-length (is .written) (omega (arith, same, within)) ∙ same,
       subst (λ (l : List ℕ). Told read l (r .planner) (t .number + 1) rest) behind grown,
     )

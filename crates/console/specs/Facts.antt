@@ -5,3 +5,4 @@ pub mod Moves
 pub mod Session
 pub mod Turns
 pub mod SameTranscripts
+pub mod Opened

@@ -8,3 +8,4 @@ pub mod Three
 pub mod Packets
 pub mod StarredCases
 pub mod ForcedRounds
+pub mod OwnRounds

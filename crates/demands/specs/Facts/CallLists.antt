@@ -1,15 +1,18 @@
 -- How often ids stand in rounds, and where a list of rounds ends.
-use mathlib.Core.Path.{_≡_, refl, sym, subst}
+use mathlib.Core.Path.{_≡_, refl, sym, ap, subst, _∙_}
 use mathlib.Core.List.{List, [], _∷_, _++_, List·Mem, List·Nodup, Pairwise·filter, filter, mem-filter, mem-cons-self, map}
 use Prim.Native.Nat.{ℕ, _+_}
 use native.Mathlib.Decide.{ℕ-discrete}
 use native.Mathlib.Omega.{arith}
+use lib.ListN.{length, getD, length-map, List·getD-map}
 use Rattle.rules.specs.Streams.{Stream}
 use Rattle.rules.specs.Slots.{passed}
+use Rattle.rules.specs.Plans.{Round}
+use Rattle.rules.specs.Runs
 use Rattle.rules.specs.Facts.Lists.{mem-nonempty, no-longer}
 use Rattle.rules.specs.Facts.RoundKept.{passed-elim}
 use Rattle.rules.specs.Facts.Packets.{advanced, advanced-next}
-use Rattle.demands.specs.CallLists.{HeldRound, times-in, times-sent, end-of}
+use Rattle.demands.specs.CallLists.{HeldRound, times-in, times-sent, end-of, start-of}
 
 module _ (id : ℕ) (ids : List ℕ) (differ : List·Nodup ids) where
   abbrev same : List ℕ
@@ -66,3 +69,14 @@ pub last-is-end : (last : ℕ) (rounds : List HeldRound) → last-of last rounds
 unfolding last-of end-of
 last-is-end last [] = refl
 last-is-end last (x ∷ rounds) = last-is-end (x .start) rounds
+
+-- rounds of the rules that start as the held ones are as many, and start so one by one
+pub same-starts : (played : List Round) (rounds : List HeldRound) → map (λ (r : Round). r .start) played ≡ map (λ (r : HeldRound). r .start) rounds
+    → (length played ≡ length rounds) × ((k : ℕ) → Runs.start-of played k ≡ start-of rounds k)
+same-starts played rounds starts = (
+  sym (length-map played (λ (r : Round). r .start)) ∙ ap (length {A = ℕ}) starts ∙ length-map rounds (λ (r : HeldRound). r .start),
+  λ k.
+      sym (List·getD-map (λ (r : Round). r .start) played k (record { start = 0; packets = [] }))
+      ∙ ap (λ (xs : List ℕ). getD xs k 0) starts
+      ∙ List·getD-map (λ (r : HeldRound). r .start) rounds k (record { start = 0; ids = [] }),
+)

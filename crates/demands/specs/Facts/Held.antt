@@ -6,7 +6,7 @@ use Prim.Native.Nat.{ℕ, _+_, _-_, _*_, _≤_, _<_}
 use native.Mathlib.Nat.{lt-irrefl, lt-of-lt-of-le}
 use native.Mathlib.Decide.{decLt}
 use native.Mathlib.Omega.{arith}
-use lib.ListN.{length, take, drop, getD, length-map, List·getD-map}
+use lib.ListN.{length, take, drop}
 use lib.Seq.{take-at}
 use Rattle.rules.specs.Streams.{Stream, Packet, packet, MayRide, PacketOf}
 use Rattle.rules.specs.Slots.{slots, served, Served}
@@ -31,7 +31,7 @@ use Rattle.planner.specs.declared.Rounded.{Rounded}
 use Rattle.demands.specs.CallLists.{Calls, none, asked, refused, held, ClockEnded}
 use Rattle.demands.specs.CallLists.{HeldRound, held-round, times-in, times-sent, IsSentInTime, end-of, start-of}
 use Rattle.demands.specs.Rivals.{IsRivalOf}
-use Rattle.demands.specs.Facts.CallLists.{stands-once, stands-never, times-sent-snoc, passes-as-sent, last-of, last-snoc, last-is-end}
+use Rattle.demands.specs.Facts.CallLists.{same-starts, stands-once, stands-never, times-sent-snoc, passes-as-sent, last-of, last-snoc, last-is-end}
 
 -- a stream with the packets sent that the rounds say
 abbrev pub sent-in : List HeldRound → Stream → Stream
@@ -235,12 +235,7 @@ module _ (h : Content) (rounds : List HeldRound) (c : Content) (follows : Follow
       → plan k .start ≤ start-of rounds k
   rival-never-later sound plan rival k below =
       let ready : IsReadyState (slots-of h) (state-of h) = record { ready = content-ready h sound; open-cap = omega arith } in
-      let many : length (follows .played) ≡ length rounds =
-      sym (length-map (follows .played) (λ (r : Round). r .start)) ∙ ap (length {A = ℕ}) (follows .starts) ∙ length-map rounds (λ (r : HeldRound). r .start) in
-      let same : getD (follows .played) k (record { start = 0; packets = [] }) .start ≡ start-of rounds k =
-      sym (List·getD-map (λ (r : Round). r .start) (follows .played) k (record { start = 0; packets = [] }))
-      ∙ ap (λ (xs : List ℕ). getD xs k 0) (follows .starts)
-      ∙ List·getD-map (λ (r : HeldRound). r .start) rounds k (record { start = 0; ids = [] }) in
-      subst (λ (x : ℕ). plan k .start ≤ x) same
+      let (many, same) = same-starts (follows .played) rounds (follows .starts) in
+      subst (λ (x : ℕ). plan k .start ≤ x) (same k)
       (held-fewest (slots-of h) (start-gap-of h) (sound .in-range .slots .0) (omega arith) (state-of h) ready plan rival (follows .lazy) k
       (subst⁻¹ (λ (n : ℕ). k < n) many below))

@@ -5,4 +5,5 @@ pub mod Moves
 pub mod Session
 pub mod Turns
 pub mod SameTranscripts
+pub mod SameScript
 pub mod Opened

@@ -12,24 +12,24 @@ use Rattle.planner.specs.declared.Planner.{Planner}
 use Rattle.planner.specs.declared.Changed.{Changed}
 use Rattle.planner.specs.declared.Rounded.{Rounded}
 
--- Two planners are twins if they hold the same, and both are sound or neither is. Their queues' links and unused places may differ.
+-- Annex 12.23: two planners are twins if they hold the same, and both are sound or neither is. Their queues' links and unused places may differ.
 pub record AreTwins (p q : Planner) : Type 0 where
   pub same : content p ≡ content q
   pub sound : Sound p ↔ Sound q
 
--- A call as it is made, with any values and any buffer ..
+-- Annex 12.24: a call as it is made, with any values and any buffer ..
 pub data Call : Type 0 where
   opening : (s : Setting) → Call
   add : (o : Offer) → Call
   remove : (id : ℕ) → Call
   round : (buffer : List ℕ) → Call
 
--- .. and all that a caller sees of it: the answer, and of a round its start, n and every place of the buffer when it returns.
+-- Annex 12.24: .. and all that a caller sees of it: the answer, and of a round its start, n and every place of the buffer when it returns.
 pub data Outcome : Type 0 where
   change : (answer : ℕ) → Outcome
   round : (answer start n : ℕ) (buffer : List ℕ) → Outcome
 
--- A call made on p, whatever it answers: what it gives by its contract, and the planner that it hands back. A further call is a line here.
+-- Annex 12.24: a call made on p, whatever it answers: what it gives by its contract, and the planner that it hands back. A further call is a line here.
 pub data Gives (p : Planner) : Call → Outcome → Planner → Type 0 where
   opens : (s : Setting) (r : Changed) → IsOpened s r → Gives p (opening s) (change (r .answer)) (r .planner)
   adds : (o : Offer) (r : Changed) → IsAdd p o r → Gives p (add o) (change (r .answer)) (r .planner)
@@ -37,12 +37,12 @@ pub data Gives (p : Planner) : Call → Outcome → Planner → Type 0 where
   rounds : (before after : List ℕ) (r : Rounded) → IsRound p before after r
       → Gives p (round before) (round (r .answer) (r .start) (r .n) after) (r .planner)
 
--- Calls made one after the other, each on the planner that the one before handed back: all that they give, and the planner that is left.
+-- Annex 12.24: calls made one after the other, each on the planner that the one before handed back: all that they give, and the planner that is left.
 pub data Makes : Planner → List Call → List Outcome → Planner → Type 0 where
   none : {p : Planner} → Makes p [] [] p
   then : {p q r : Planner} {c : Call} {o : Outcome} {cs : List Call} {os : List Outcome} → Gives p c o q → Makes q cs os r → Makes p (c ∷ cs) (o ∷ os) r
 
--- What two suppliers need: whatever calls are made on twins, the outcomes are the same, one by one, and twins are left.
+-- Annex 3.13, 12.24: what two suppliers need: whatever calls are made on twins, the outcomes are the same, one by one, and twins are left.
 abbrev pub SameOutcomes : Type 0
 SameOutcomes =
     (p p′ : Planner) → AreTwins p p′ → (cs : List Call) (os os′ : List Outcome) (q q′ : Planner)

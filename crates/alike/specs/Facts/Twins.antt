@@ -21,7 +21,7 @@ use Rattle.planner.specs.declared.Rounded.{Rounded}
 use Rattle.alike.specs.Twins.{AreTwins, Call, Outcome, change, round, Gives, opens, adds, removes, rounds, Makes, none, then, SameOutcomes}
 use Rattle.alike.specs.Facts.Refusals.{AreAlike, alike-itself, same-answers}
 
--- equal planners are twins
+-- Annex 12.23: equal planners are twins
 pub equal-are-twins : {p q : Planner} → p ≡ q → AreTwins p q
 equal-are-twins {p} e = subst (AreTwins p) e (record { same = refl; sound = (λ a. a, λ a. a) })
 
@@ -163,6 +163,6 @@ outcomes-alike twins (then gives more) (then gives′ more′) =
     let (outcomes, left) = outcomes-alike after more more′ in
     ((λ i. outcome i ∷ outcomes i), left)
 
--- twins give the same outcomes for ever
+-- Annex 3.13, 12.24: twins give the same outcomes for ever
 pub same-outcomes : SameOutcomes
 same-outcomes p p′ twins cs os os′ q q′ made made′ = outcomes-alike twins made made′

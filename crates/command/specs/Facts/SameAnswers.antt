@@ -65,7 +65,7 @@ same-answered twins number Round r s is is′ = go (ℕ-discrete (is .done .answ
         same-given (same .twins-after) (ap (λ (n : ℕ). n ∷ []) (same .answer)) (is .refused some) (is′ .refused (λ zero. some (same .answer ∙ zero)))
 same-answered twins number Malformed r s is is′ = same-given twins refl is is′
 
--- twins answer a line with the same bytes, and twins are left
+-- Annex 12.25: twins answer a line with the same bytes, and twins are left
 pub same-text : {p q : Planner} → AreTwins p q → (number : ℕ) (line : List ℕ) (c d : Command) (r s : Answered) → Says line c → Says line d
     → IsAnswered p number c r → IsAnswered q number d s → (one other : List ℕ) → IsLine (r .letter) (numbers-of r) one → IsLine (s .letter) (numbers-of s) other
     → (one ≡ other) × AreTwins (r .planner) (s .planner)

@@ -141,13 +141,13 @@ same-last {bytes} {out} {out′} {w} {w′} {after} {after′} {t} {t′} {r} {r
         unmoved (step-level level (ap (λ (n : ℕ). drop n bytes) (level .from)) (omega arith) (omega arith) (length bytes) (length bytes) refl after after′ step step′ is is′)
         (r-is, refl) (r-is′, refl)
 
--- Two runs of the same script into buffers of the same length: as many bytes written, the same ones; and from equal buffers all places are equal.
+-- Annex 12.27: two runs of the same script into buffers of the same length: as many bytes written, the same ones; and from equal buffers all places are equal.
 pub record IsSameOutput (before before′ after after′ : List ℕ) (r r′ : ℕ) : Type 0 where
   pub count : r ≡ r′
   pub text : take r after ≡ take r′ after′
   pub buffer : before ≡ before′ → after ≡ after′
 
--- what `run_script` promises leaves nothing open
+-- Annex 12.27: what `run_script` promises leaves nothing open
 pub same-script : (script before before′ after after′ : List ℕ) (r r′ : ℕ) → length before ≡ length before′
     → IsScript script before after r → IsScript script before′ after′ r′ → IsSameOutput before before′ after after′ r r′
 same-script script before before′ after after′ r r′ room is is′ =

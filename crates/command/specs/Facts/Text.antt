@@ -26,6 +26,7 @@ unfolding value-from
 numeral-value (digit d small) = omega arith
 numeral-value (further {bytes = bytes} {n = n} begun positive d small) = omega (arith, numeral-value begun, value-append 0 bytes (48 + d))
 
+-- Annex 12.25: one text has one number
 pub numeral-unique : {bytes : List ℕ} {m n : ℕ} → IsNumeral bytes m → IsNumeral bytes n → m ≡ n
 numeral-unique first second = numeral-value first ∙ sym (numeral-value second)
 

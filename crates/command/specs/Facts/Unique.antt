@@ -19,7 +19,7 @@ use Rattle.command.specs.Facts.Fields.{IsFirst, fields-cases, ends-befor
 use Rattle.command.specs.declared.Command.{Command}
 use Rattle.command.specs.declared.Command.the-variants.{Open, Add, Remove, Round, Malformed}
 
--- one number has one text (and one text one number: `numeral-unique`)
+-- Annex 12.25: one number has one text (and one text one number: `numeral-unique`)
 pub numeral-text : {one other : List ℕ} {m n : ℕ} → IsNumeral one m → IsNumeral other n → m ≡ n → one ≡ other
 numeral-text (digit d small) (digit e little) same = ap (λ (k : ℕ). (48 + k) ∷ []) same
 numeral-text (digit d small) (further numeral some e little) same = absurd (lt-irrefl 0 (omega arith))
@@ -73,14 +73,14 @@ fields-numbers (more {bytes} {rest} {n} {ns} numeral further-fields) other ms sa
         let numbers = later (f .rest) (f .others) left (f .further) in
         (λ i. number i ∷ numbers i) ∙ sym (f .numbers)
 
--- a letter and numbers have one line with its end
+-- Annex 12.25: a letter and numbers have one line with its end
 pub line-text : {letter : ℕ} {ns one other : List ℕ} → IsLine letter ns one → IsLine letter ns other → one ≡ other
 line-text {letter} is is′ =
     let fields = fields-text (is .written .numbers) (is′ .written .numbers) in
     let line : is .line ≡ is′ .line = is .written .begins ∙ ap (λ (l : List ℕ). letter ∷ l) fields ∙ sym (is′ .written .begins) in
     is .ended ∙ ap (λ (l : List ℕ). l ++ (10 ∷ [])) line ∙ sym (is′ .ended)
 
--- and a line with its end one letter and one list of numbers
+-- Annex 12.25: and a line with its end one letter and one list of numbers
 pub line-numbers : {letter letter′ : ℕ} {ns ms bytes : List ℕ} → IsLine letter ns bytes → IsLine letter′ ms bytes → (letter ≡ letter′) × (ns ≡ ms)
 line-numbers {ms = ms} is is′ =
     let line : is .line ≡ is′ .line = append-cancel-right (is .line) (is′ .line) (10 ∷ []) (sym (is .ended) ∙ is′ .ended) in
@@ -122,7 +122,7 @@ malformed-says-none line bad (Remove id) says = absurd (bad .no-remove id says)
 malformed-says-none line bad Round says = absurd (bad .no-round says)
 malformed-says-none line bad Malformed says = refl
 
--- a line says one command and no other, or is malformed and says none
+-- Annex 12.25: a line says one command and no other, or is malformed and says none
 pub says-one : (line : List ℕ) (c d : Command) → Says line c → Says line d → c ≡ d
 says-one line c d says says′ = go (said line c says) (said line d says′)
   where

@@ -60,7 +60,7 @@ module _ {script before after : List ℕ} {r : ℕ} (is : IsScript script before
       go (inl line-end) = rest-no-end script (t .from) line-end
       go (inr full) = absurd (lt-irrefl 0 (omega (arith, had-room, lines-told .0)))
 
-  -- Annex 11.24: a script that had room is all told, and what was written is its answers
+  -- Annex 11.24, 12.27: a script that had room is all told, and what was written is its answers
   pub script-told : ToldAll script (take r after)
   script-told = go (ℕ-discrete (t .from) (length script))
     where
@@ -82,6 +82,6 @@ module _ {script before after : List ℕ} {r : ℕ} (is : IsScript script before
           ends : drop (t .from) script ≡ [] → t .from ≡ length script
           ends nothing = omega (arith, ap length nothing, length-drop (t .from) script, is .lines .in-input)
 
-  -- so that run_script and a program that reads the script write the same bytes
+  -- Annex 12.27: so that run_script and a program that reads the script write the same bytes
   pub same-as-read : {written : List ℕ} → ToldAll script written → take r after ≡ written
   same-as-read told = same-output script-told told

@@ -115,7 +115,7 @@ first-twins : {read read′ written written′ rest rest′ : List ℕ} {p p′ 
     (b : AreAnswered read′ written′ p′ n′ rest′) → AreTwins (a .first) (b .first)
 first-twins a b = equal-are-twins (a .closed .whole ∙ sym (b .closed .whole))
 
--- Annex 11.22: two hosts that have read the same bytes and answered as many lines have written the same bytes, and hold the same
+-- Annex 12.26: two hosts that have read the same bytes and answered as many lines have written the same bytes, and hold the same
 pub same-told : {read written written′ kept kept′ : List ℕ} {p p′ : Planner} {n : ℕ} → Told read written p n kept → Told read written′ p′ n kept′
     → (written ≡ written′) × AreTwins p p′
 same-told told told′ =
@@ -124,7 +124,7 @@ same-told told told′ =
     let w = same-transcript (first-twins a b) (a .transcript) (b .transcript) refl (told .rest) (told′ .rest) (sym (a .all) ∙ b .all) in
     (w .answers-same, w .twins)
 
--- of two hosts, one of which has read on and answered more lines, the one has written the beginning of what the other has
+-- Annex 12.26: of two hosts, one of which has read on and answered more lines, the one has written the beginning of what the other has
 pub told-begins : {read written written′ kept kept′ : List ℕ} (later : List ℕ) {p p′ : Planner} {n n′ : ℕ} → n ≤ n′ → Told read written p n kept
     → Told (read ++ later) written′ p′ n′ kept′ → (more : List ℕ) × (written′ ≡ written ++ more)
 told-begins later less told told′ =
@@ -133,7 +133,7 @@ told-begins later less told told′ =
     answers-begin (first-twins a b) (a .transcript) (b .transcript) less (told .rest ++ later) (told′ .rest)
     (sym (append-assoc (a .lines) (told .rest) later) ∙ ap (λ (l : List ℕ). l ++ later) (sym (a .all)) ∙ b .all)
 
--- Annex 11.2: two hosts that have read the same whole input have written the same bytes
+-- Annex 12.26: two hosts that have read the same whole input have written the same bytes
 pub same-output : {read written written′ : List ℕ} → ToldAll read written → ToldAll read written′ → written ≡ written′
 same-output {read} {written} {written′} told told′ = go (told .rest) refl
   where

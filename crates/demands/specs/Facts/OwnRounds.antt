@@ -49,11 +49,11 @@ held-is-run b gap st starts lazy (then {rounds} {at} held s is) =
         let last : k ≡ length rounds = omega arith in
         rw last (ap (λ (r : Round). r .start) (getD-append-seam rounds (round-at b at s) [] (record { start = 0; packets = [] })) ∙ start)
 
--- The starts of the lazy rounds of what a planner holds, for ever; they are found up to its superframe ..
+-- Annex 12.22: the starts of the lazy rounds of what a planner holds, for ever; they are found up to its superframe ..
 abbrev pub own-starts : Content → ℕ → ℕ
 own-starts h = lazy-starts (slots-of h) (start-gap-of h) (h .frame) (state-of h)
 
--- .. and those rounds as a plan.
+-- Annex 12.22: .. and those rounds as a plan.
 abbrev pub own-rounds : Content → ℕ → Round
 own-rounds h = run-plan (slots-of h) (start-gap-of h) (state-of h) (own-starts h)
 
@@ -64,7 +64,7 @@ module _ (h : Content) (sound : ContentSound h) where
   own-lazy : IsLazyRun (slots-of h) (start-gap-of h) (state-of h) (own-starts h)
   own-lazy = lazy-run-exists (slots-of h) (start-gap-of h) (h .frame) (sound .in-range .slots .0) (omega arith) (state-of h) ready (frame-is-busy h sound)
 
-  -- a sound planner's own rounds are a rival ..
+  -- Annex 12.22: a sound planner's own rounds are a rival ..
   pub own-is-rival : IsRivalOf h (own-rounds h)
   own-is-rival =
       let positive = sound .in-range .slots .0 in
@@ -74,11 +74,11 @@ module _ (h : Content) (sound : ContentSound h) where
         keeps-gap = lazy-keeps-gap (slots-of h) (start-gap-of h) positive (omega arith) (state-of h) ready (own-starts h) own-lazy;
       }
 
--- .. so that every sound planner has one
+-- Annex 12.22: .. so that every sound planner has one
 pub has-rival : (p : Planner) → Sound p → (plan : ℕ → Round) × IsRivalOf (content p) plan
 has-rival p sound = (own-rounds (content p), own-is-rival (content p) (sound .content-sound))
 
--- the rounds that a list of calls holds are the first of them: no rival holds a k-th round later than this one, and it holds it then
+-- Annex 12.22: the rounds that a list of calls holds are the first of them: no rival holds a k-th round later than this one, and it holds it then
 pub own-rounds-held : (p : Planner) → Sound p → (rounds : List HeldRound) (q : Planner) → Calls p rounds q → (k : ℕ) → k < length rounds
     → own-rounds (content p) k .start ≡ start-of rounds k
 own-rounds-held p sound rounds q calls k below =

@@ -38,7 +38,7 @@ pub record AreLevel (out out′ : List ℕ) (t t′ : Reached) (written written�
   pub text : take (t .end) written ≡ take (t′ .end) written′
   pub buffer : out ≡ out′ → written ≡ written′
 
-level-back : {out out′ : List ℕ} {t t′ : Reached} {written written′ : List ℕ} → AreLevel out out′ t t′ written written′ → AreLevel out′ out t′ t written′ written
+level-back : {out out′ w w′ : List ℕ} {t t′ : Reached} → AreLevel out out′ t t′ w w′ → AreLevel out′ out t′ t w′ w
 level-back level =
     record {
       twins = twins-back (level .twins);
@@ -138,7 +138,8 @@ same-last {bytes} {out} {out′} {w} {w′} {after} {after′} {t} {t′} {r} {r
         let free′ : t′ .end + 1430 ≤ length w′ = omega (arith, room, level .end) in
         let (step, (is, r-is)) = last .last-line some (omega arith) in
         let (step′, (is′, r-is′)) = last′ .last-line (λ done. some (level .from ∙ done)) free′ in
-        unmoved (step-level level (ap (λ (n : ℕ). drop n bytes) (level .from)) (omega arith) (omega arith) (length bytes) (length bytes) refl after after′ step step′ is is′)
+        let last-lines = ap (λ (n : ℕ). drop n bytes) (level .from) in
+        unmoved (step-level level last-lines (omega arith) (omega arith) (length bytes) (length bytes) refl after after′ step step′ is is′)
         (r-is, refl) (r-is′, refl)
 
 -- Annex 12.27: two runs of the same script into buffers of the same length: as many bytes written, the same ones; and from equal buffers all places are equal.

@@ -75,9 +75,11 @@ module _ (q : Planner) (number : ℕ) (line answer : List ℕ) (r : Answered) (t
             absurd (closed-is-not-sound (is .done .planner) (is .by-contract .closed (λ zero. some (is .by-contract .answer ∙ zero)))
             (subst Sound (is .given .planner) sound))
     line-leaves (Add id s p d) says is =
-        still (kept (is .given) (λ e. omega (arith, e)) (λ b f g t other. lt-irrefl 0 (omega (arith, good-unique says other .0))) (change-leaves-sound (is .by-contract)))
+        let no-open : IsNoOpen line = λ b f g t other. lt-irrefl 0 (omega (arith, good-unique says other .0)) in
+        still (kept (is .given) (λ e. omega (arith, e)) no-open (change-leaves-sound (is .by-contract)))
     line-leaves (Remove id) says is =
-        still (kept (is .given) (λ e. omega (arith, e)) (λ b f g t other. lt-irrefl 0 (omega (arith, good-unique says other .0))) (change-leaves-sound (is .by-contract)))
+        let no-open : IsNoOpen line = λ b f g t other. lt-irrefl 0 (omega (arith, good-unique says other .0)) in
+        still (kept (is .given) (λ e. omega (arith, e)) no-open (change-leaves-sound (is .by-contract)))
     line-leaves Round says is = go (ℕ-discrete (is .done .answer) 0)
       where
         no-open : IsNoOpen line
@@ -117,7 +119,8 @@ pub open-is-sound : {p q : Planner} {lines answers : List ℕ} {n : ℕ} → IsF
 unfolding IsOpen
 open-is-sound {p} closed none = (λ never. absurd never, λ sound. closed-is-not-sound p closed sound)
 open-is-sound closed (next {q} {n} t line answer after no-end is) =
-    let (on, back) = line-leaves q (n + 1) line answer (is .answered) (is .written) (IsOpen t) (open-is-sound closed t) (is .command) (is .says) (is .by-contract) in
+    let before = open-is-sound closed t in
+    let (on, back) = line-leaves q (n + 1) line answer (is .answered) (is .written) (IsOpen t) before (is .command) (is .says) (is .by-contract) in
     (λ open-now. subst⁻¹ Sound (is .planner) (on open-now), λ sound. back (subst Sound (is .planner) sound))
 
 -- Annex 11.10: A, D and R are answered 5 exactly where no O has succeeded since the beginning or since a refused one
@@ -125,6 +128,7 @@ pub five-exactly : {p q after : Planner} {lines answers line answer : List ℕ} 
     → (c : Command) → Says line c → AsksForOpen c → IsAnswer q (n + 1) line answer after → IsFive c answer ↔ (IsOpen t → ⊥)
 five-exactly {q = q} {line = line} {answer = answer} {n = n} closed t c says asks is =
     let same = says-one line (is .command) c (is .says) says in
-    let (on, back) = five-if-unsound q (n + 1) line answer (is .answered) (is .written) c asks (subst (λ (d : Command). IsAnswered q (n + 1) d (is .answered)) same (is .by-contract)) in
+    let to-c = subst (λ (d : Command). IsAnswered q (n + 1) d (is .answered)) same (is .by-contract) in
+    let (on, back) = five-if-unsound q (n + 1) line answer (is .answered) (is .written) c asks to-c in
     let (sound, open-now) = open-is-sound closed t in
     (λ five is-open. on five (sound is-open), λ not-open. back (λ is-sound. not-open (open-now is-sound)))

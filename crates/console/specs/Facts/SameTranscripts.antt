@@ -34,7 +34,9 @@ same-first-line [] [] rest rest′ no-end no-end′ same = (refl, tail-eq-of-con
 same-first-line [] (y ∷ line′) rest rest′ no-end no-end′ same = absurd (no-end′ 0 (omega arith) (omega arith) (sym (head-eq-of-cons-eq same)))
 same-first-line (x ∷ line) [] rest rest′ no-end no-end′ same = absurd (no-end 0 (omega arith) (omega arith) (head-eq-of-cons-eq same))
 same-first-line (x ∷ line) (y ∷ line′) rest rest′ no-end no-end′ same =
-    let (lines, rests) = same-first-line line line′ rest rest′ (no-end-second (x ∷ []) line no-end) (no-end-second (y ∷ []) line′ no-end′) (tail-eq-of-cons-eq same) in
+    let in-line = no-end-second (x ∷ []) line no-end in
+    let in-line′ = no-end-second (y ∷ []) line′ no-end′ in
+    let (lines, rests) = same-first-line line line′ rest rest′ in-line in-line′ (tail-eq-of-cons-eq same) in
     let first = head-eq-of-cons-eq same in
     ((λ i. first i ∷ lines i), rests)
 
@@ -56,7 +58,8 @@ pub same-transcript : {p p′ q q′ : Planner} {lines lines′ answers answers�
 same-transcript twins none none count rest rest′ same = record { lines-same = refl; rest-same = same; answers-same = refl; twins = twins }
 same-transcript twins none (next t′ line′ answer′ after′ no-end′ is′) count rest rest′ same = absurd (lt-irrefl 0 (omega arith))
 same-transcript twins (next t line answer after no-end is) none count rest rest′ same = absurd (lt-irrefl 0 (omega arith))
-same-transcript twins (next {lines} {n = n} t line answer after no-end is) (next {lines = lines′} {n = n′} t′ line′ answer′ after′ no-end′ is′) count rest rest′ same =
+same-transcript twins (next {lines} {n = n} t line answer after no-end is)
+    (next {lines = lines′} {n = n′} t′ line′ answer′ after′ no-end′ is′) count rest rest′ same =
     let counts : n ≡ n′ = omega arith in
     let so-far = same-transcript twins t t′ counts (line ++ (10 ∷ rest)) (line′ ++ (10 ∷ rest′))
     (sym (line-before lines line rest) ∙ same ∙ line-before lines′ line′ rest′) in
@@ -76,7 +79,8 @@ pub answers-begin : {p p′ q q′ : Planner} {lines lines′ answers answers′
 answers-begin {answers = answers} {n = n} twins t none less rest rest′ same =
     let w = same-transcript twins t none (omega arith) rest rest′ same in
     ([], sym (w .answers-same) ∙ sym (append-nil answers))
-answers-begin {lines = lines} {answers = answers} {n = n} twins t (next {lines = lines′} {answers = answers′} {n = n′} t′ line′ answer′ after′ no-end′ is′) less rest rest′ same =
+answers-begin {answers = answers} {n = n} twins t (next {lines = lines′} {answers = answers′} {n = n′} t′ line′ answer′ after′ no-end′ is′)
+    less rest rest′ same =
     go (decLe n n′) (λ before. answers-begin twins t t′ before rest (line′ ++ (10 ∷ rest′)) (same ∙ line-before lines′ line′ rest′))
   where
     go : Dec (n ≤ n′) → (n ≤ n′ → (more : List ℕ) × (answers′ ≡ answers ++ more)) → (more : List ℕ) × ((answers′ ++ answer′) ≡ answers ++ more)

@@ -2,6 +2,7 @@
 use mathlib.Core.Path.{_≡_}
 use mathlib.Core.List.{List}
 use Prim.Native.Nat.{ℕ}
+use lib.ListN.{take}
 use Rattle.planner.specs.Open.{zeros, IsFresh}
 use Rattle.command.specs.Runs.{HasRun, HasRunLast}
 use Rattle.command.specs.declared.lines.Reached.{Reached}
@@ -23,3 +24,9 @@ pub record IsScript (script before after : List ℕ) (r : ℕ) : Type 0 where
   pub ended : Reached
   pub last : HasRunLast reached script middle after ended
   pub written : r ≡ ended .end
+
+-- Annex 12.27: two runs of the same script into buffers of the same length: as many bytes written, the same ones; and from equal buffers all places are equal.
+pub record IsSameOutput (before before′ after after′ : List ℕ) (r r′ : ℕ) : Type 0 where
+  pub count : r ≡ r′
+  pub text : take r after ≡ take r′ after′
+  pub buffer : before ≡ before′ → after ≡ after′

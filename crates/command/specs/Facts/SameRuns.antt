@@ -14,7 +14,7 @@ use Rattle.command.specs.Lines.{IsLineEnd}
 use Rattle.command.specs.Step.{IsStep}
 use Rattle.command.specs.Runs.{part-of, Reaches, HasRun, HasRunLast}
 use Rattle.command.specs.Runs.Reaches.{none, one-more}
-use Rattle.command.specs.Script.{IsBeginning, IsScript}
+use Rattle.command.specs.Script.{IsBeginning, IsScript, IsSameOutput}
 use Rattle.command.specs.Facts.Puts.{put-length, put-written}
 use Rattle.command.specs.Facts.SameAnswers.{IsSameStep, same-step}
 use Rattle.command.specs.declared.lines.Reached.{Reached}
@@ -141,12 +141,6 @@ same-last {bytes} {out} {out′} {w} {w′} {after} {after′} {t} {t′} {r} {r
         let last-lines = ap (λ (n : ℕ). drop n bytes) (level .from) in
         unmoved (step-level level last-lines (omega arith) (omega arith) (length bytes) (length bytes) refl after after′ step step′ is is′)
         (r-is, refl) (r-is′, refl)
-
--- Annex 12.27: two runs of the same script into buffers of the same length: as many bytes written, the same ones; and from equal buffers all places are equal.
-pub record IsSameOutput (before before′ after after′ : List ℕ) (r r′ : ℕ) : Type 0 where
-  pub count : r ≡ r′
-  pub text : take r after ≡ take r′ after′
-  pub buffer : before ≡ before′ → after ≡ after′
 
 -- Annex 12.27: what `run_script` promises leaves nothing open
 pub same-script : (script before before′ after after′ : List ℕ) (r r′ : ℕ) → length before ≡ length before′

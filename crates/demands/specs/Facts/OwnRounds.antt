@@ -49,12 +49,12 @@ held-is-run b gap st starts lazy (then {rounds} {at} held s is) =
         let last : k ≡ length rounds = omega arith in
         rw last (ap (λ (r : Round). r .start) (getD-append-seam rounds (round-at b at s) [] (record { start = 0; packets = [] })) ∙ start)
 
--- Annex 12.22: the starts of the lazy rounds of what a planner holds, for ever; they are found up to its superframe ..
-abbrev pub own-starts : Content → ℕ → ℕ
+-- The starts of the lazy rounds of what a planner holds, for ever; they are found up to its superframe ..
+abbrev own-starts : Content → ℕ → ℕ
 own-starts h = lazy-starts (slots-of h) (start-gap-of h) (h .frame) (state-of h)
 
--- Annex 12.22: .. and those rounds as a plan.
-abbrev pub own-rounds : Content → ℕ → Round
+-- .. and those rounds as a plan.
+abbrev own-rounds : Content → ℕ → Round
 own-rounds h = run-plan (slots-of h) (start-gap-of h) (state-of h) (own-starts h)
 
 module _ (h : Content) (sound : ContentSound h) where
@@ -64,8 +64,8 @@ module _ (h : Content) (sound : ContentSound h) where
   own-lazy : IsLazyRun (slots-of h) (start-gap-of h) (state-of h) (own-starts h)
   own-lazy = lazy-run-exists (slots-of h) (start-gap-of h) (h .frame) (sound .in-range .slots .0) (omega arith) (state-of h) ready (frame-is-busy h sound)
 
-  -- Annex 12.22: a sound planner's own rounds are a rival ..
-  pub own-is-rival : IsRivalOf h (own-rounds h)
+  -- a sound planner's own rounds are a rival ..
+  own-is-rival : IsRivalOf h (own-rounds h)
   own-is-rival =
       let positive = sound .in-range .slots .0 in
       record {
@@ -78,12 +78,17 @@ module _ (h : Content) (sound : ContentSound h) where
 pub has-rival : (p : Planner) → Sound p → (plan : ℕ → Round) × IsRivalOf (content p) plan
 has-rival p sound = (own-rounds (content p), own-is-rival (content p) (sound .content-sound))
 
--- Annex 12.22: the rounds that a list of calls holds are the first of them: no rival holds a k-th round later than this one, and it holds it then
-pub own-rounds-held : (p : Planner) → Sound p → (rounds : List HeldRound) (q : Planner) → Calls p rounds q → (k : ℕ) → k < length rounds
-    → own-rounds (content p) k .start ≡ start-of rounds k
-own-rounds-held p sound rounds q calls k below =
-    let h = content p in
-    let follows = calls-follow p sound calls .1 in
-    let (many, same) = same-starts (follows .played) rounds (follows .starts) in
-    let first = held-is-run (slots-of h) (start-gap-of h) (state-of h) (own-starts h) (own-lazy h (sound .content-sound)) (follows .lazy) .1 in
-    sym (first k (omega arith)) ∙ same k
+-- Annex 12.22: .. whose k-th round starts when the k-th held one does, whatever calls are made: no rival holds one later, and this one holds it then
+pub fewest-is-reached : (p : Planner) → Sound p
+    → (plan : ℕ → Round) × (IsRivalOf (content p) plan
+    × ((rounds : List HeldRound) (q : Planner) → Calls p rounds q → (k : ℕ) → k < length rounds → plan k .start ≡ start-of rounds k))
+fewest-is-reached p sound = (own-rounds (content p), (own-is-rival (content p) (sound .content-sound), held-then))
+  where
+    held-then : (rounds : List HeldRound) (q : Planner) → Calls p rounds q → (k : ℕ) → k < length rounds
+        → own-rounds (content p) k .start ≡ start-of rounds k
+    held-then rounds q calls k below =
+        let h = content p in
+        let follows = calls-follow p sound calls .1 in
+        let (many, same) = same-starts (follows .played) rounds (follows .starts) in
+        let first = held-is-run (slots-of h) (start-gap-of h) (state-of h) (own-starts h) (own-lazy h (sound .content-sound)) (follows .lazy) .1 in
+        sym (first k (omega arith)) ∙ same k

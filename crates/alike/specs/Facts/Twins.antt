@@ -21,6 +21,10 @@ use Rattle.planner.specs.declared.Rounded.{Rounded}
 use Rattle.alike.specs.Twins.{AreTwins, Call, Outcome, change, round, Gives, opens, adds, removes, rounds, Makes, none, then, SameOutcomes}
 use Rattle.alike.specs.Facts.Refusals.{AreAlike, alike-itself, same-answers}
 
+-- 5 is answered by both or by neither
+unsound-alike : {p q : Planner} → AreTwins p q → (Sound p → ⊥) ↔ (Sound q → ⊥)
+unsound-alike twins = (λ bad sound. bad (twins .sound .1 sound), λ bad sound. bad (twins .sound .0 sound))
+
 -- Annex 12.23: equal planners are twins
 pub equal-are-twins : {p q : Planner} → p ≡ q → AreTwins p q
 equal-are-twins {p} e = subst (AreTwins p) e (record { same = refl; sound = (λ a. a, λ a. a) })
@@ -51,9 +55,6 @@ pub record IsSameRound (before before′ after after′ : List ℕ) (r s : Round
   pub twins-after : AreTwins (r .planner) (s .planner)
 
 module _ {p q : Planner} (twins : AreTwins p q) where
-  unsound-alike : (Sound p → ⊥) ↔ (Sound q → ⊥)
-  unsound-alike = (λ bad sound. bad (twins .sound .1 sound), λ bad sound. bad (twins .sound .0 sound))
-
   -- planners handed back as they were
   pub still-twins : {p′ q′ : Planner} → p′ ≡ p → q′ ≡ q → AreTwins p′ q′
   still-twins {p′} {q′} e f = subst (λ (x : Planner). AreTwins x q′) (sym e) (subst (AreTwins p) (sym f) twins)
@@ -66,7 +67,7 @@ module _ {p q : Planner} (twins : AreTwins p q) where
       unfolding AreAlike
       change-answers =
           is .answer
-          ∙ same-answers (unsound p ∷ rest (content p)) (unsound q ∷ rest (content p)) (refl, (unsound-alike, alike-itself (rest (content p))))
+          ∙ same-answers (unsound p ∷ rest (content p)) (unsound q ∷ rest (content p)) (refl, (unsound-alike twins, alike-itself (rest (content p))))
           ∙ ap (λ (h : Content). answer-of (unsound q ∷ rest h)) (twins .same)
           ∙ sym (is′ .answer)
 
@@ -93,7 +94,7 @@ module _ {p q : Planner} (twins : AreTwins p q) where
       unfolding AreAlike
       round-answers =
           is .answer
-          ∙ same-answers (round-refusals p before) (round-refusals q before′) (refl, (unsound-alike, (refl, (short-alike, (refl, (late-alike, tt))))))
+          ∙ same-answers (round-refusals p before) (round-refusals q before′) (refl, (unsound-alike twins, (refl, (short-alike, (refl, (late-alike, tt))))))
           ∙ sym (is′ .answer)
 
       -- twins hold the same round, whatever stands in buffers of the same length

@@ -1,5 +1,5 @@
 -- A planner answers 5 exactly if it is not sound, and add, remove and round leave it sound exactly if it was.
-use mathlib.Core.Path.{_≡_, sym, subst, subst⁻¹, _∙_}
+use mathlib.Core.Path.{_≡_, sym, subst, _∙_}
 use mathlib.Core.Logic.{_↔_, ite, Dec·not-not}
 use mathlib.Core.List.{List, [], _∷_}
 use Prim.Native.Nat.{ℕ}

@@ -2,7 +2,6 @@
 use mathlib.Core.Path.{_≡_, refl}
 use mathlib.Core.Logic.{_↔_, ite}
 use mathlib.Core.List.{List, [], _∷_}
-use Prim.Native.Nat.{ℕ}
 use Rattle.basics.specs.Refusals.{Refusal, answer-of}
 
 -- Refusals of the same numbers in the same order, each of which applies exactly if the other does.

@@ -10,7 +10,7 @@ use Rattle.basics.specs.Refusals.{Refusal, answer-of}
 use Rattle.rules.specs.Facts.LazyStart.{lazy-unique}
 use Rattle.planner.specs.Content.{Content, content, cap-of, slots-of, streams-in}
 use Rattle.planner.specs.Sound.{Sound}
-use Rattle.planner.specs.Open.{Setting, zeros, open-refusals, IsFresh, IsOpened}
+use Rattle.planner.specs.Open.{Setting, open-refusals, IsOpened}
 use Rattle.planner.specs.AddRemove.{Offer, unsound, offer-refusals, rule-refusals, added, removed, not-held, IsSoundWith, IsChange}
 use Rattle.planner.specs.Round.{ids-at, rounded, short-buffer, round-refusals, IsRound, IsHeldRound}
 use Rattle.planner.specs.Start.{IsStart, StartsLate}

@@ -1,7 +1,7 @@
 -- Twins answer a line with the same text.
 use mathlib.Core.Path.{_≡_, refl, sym, ap, subst, _∙_}
 use mathlib.Core.List.{List, [], _∷_, _++_}
-use Prim.Native.Nat.{ℕ, _+_, _≤_}
+use Prim.Native.Nat.{ℕ, _+_}
 use native.Mathlib.Decide.{ℕ-discrete}
 use lib.ListN.{length, take, drop}
 use Rattle.planner.specs.Content.{Content}
@@ -10,9 +10,9 @@ use Rattle.planner.specs.declared.Planner.{Planner}
 use Rattle.alike.specs.Twins.{AreTwins}
 use Rattle.alike.specs.Facts.Twins.{equal-are-twins, still-twins, same-opening, change-answers, change-twins, add-rest, remove-rest, IsSameRound, same-round}
 use Rattle.command.specs.Commands.{Says}
-use Rattle.command.specs.Answers.{Gives, IsRoundGiven, IsAnswered}
+use Rattle.command.specs.Answers.{Gives, IsAnswered}
 use Rattle.command.specs.Step.{IsStep}
-use Rattle.command.specs.Puts.{IsPut, IsLine}
+use Rattle.command.specs.Puts.{IsLine}
 use Rattle.command.specs.Facts.Unique.{says-one, line-text}
 use Rattle.command.specs.declared.Command.{Command}
 use Rattle.command.specs.declared.Command.the-variants.{Open, Add, Remove, Round, Malformed}

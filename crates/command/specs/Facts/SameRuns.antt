@@ -1,22 +1,21 @@
 -- Two runs of the same script write the same.
 use mathlib.Core.Path.{_≡_, refl, sym, ap, subst, _∙_}
-use mathlib.Core.Logic.{_⊎_, inl, inr, _↔_}
-use mathlib.Core.List.{List, [], _∷_, _++_}
+use mathlib.Core.Logic.{_⊎_, inl, inr}
+use mathlib.Core.List.{List, _++_}
 use Prim.Native.Nat.{ℕ, _+_, _≤_, _<_}
 use native.Mathlib.Nat.{lt-irrefl}
 use native.Mathlib.Decide.{decLe, decLt, ℕ-discrete}
 use native.Mathlib.Omega.{arith}
-use lib.ListN.{length, take, drop, getD}
-use Rattle.planner.specs.declared.Planner.{Planner}
+use lib.ListN.{length, take, drop}
 use Rattle.alike.specs.Twins.{AreTwins}
 use Rattle.alike.specs.Facts.Twins.{equal-are-twins, twins-back}
 use Rattle.command.specs.Lines.{IsLineEnd}
 use Rattle.command.specs.Step.{IsStep}
 use Rattle.command.specs.Runs.{part-of, Reaches, HasRun, HasRunLast}
 use Rattle.command.specs.Runs.Reaches.{none, one-more}
-use Rattle.command.specs.Script.{IsBeginning, IsScript, IsSameOutput}
+use Rattle.command.specs.Script.{IsScript, IsSameOutput}
 use Rattle.command.specs.Facts.Puts.{put-length, put-written}
-use Rattle.command.specs.Facts.SameAnswers.{IsSameStep, same-step}
+use Rattle.command.specs.Facts.SameAnswers.{same-step}
 use Rattle.command.specs.declared.lines.Reached.{Reached}
 use Rattle.command.specs.declared.step.Step.{Step}
 

@@ -1,14 +1,14 @@
 -- Text tells its numbers, and numbers tell their text: a line says one command and no other, and an answer has one text.
-use mathlib.Core.Path.{_≡_, refl, sym, ap, subst, _∙_}
+use mathlib.Core.Path.{_≡_, refl, sym, ap, _∙_}
 use mathlib.Core.Logic.{_⊎_, inl, inr, ite}
 use mathlib.Core.List.{List, [], _∷_, _++_, head-eq-of-cons-eq, tail-eq-of-cons-eq, nil≢cons, append-cancel-right}
-use Prim.Native.Nat.{ℕ, _+_, _*_, _≤_, _<_}
+use Prim.Native.Nat.{ℕ, _+_, _≤_}
 use native.Mathlib.Nat.{lt-irrefl}
 use native.Mathlib.Decide.{ℕ-discrete}
 use native.Mathlib.Omega.{arith}
 use lib.ListN.{length, take, drop, getD, length-append}
 use lib.Seq.{take-append-seam, drop-append-seam}
-use Rattle.command.specs.Text.{IsNumeral, IsFields, IsWritten}
+use Rattle.command.specs.Text.{IsNumeral, IsFields}
 use Rattle.command.specs.Text.IsNumeral.{digit, further}
 use Rattle.command.specs.Text.IsFields.{none, more}
 use Rattle.command.specs.Commands.{IsGood, IsMalformed, Says}

@@ -1,12 +1,12 @@
 -- The planner is sound exactly while it is open, and 5 is answered exactly while it is not.
-use mathlib.Core.Path.{_≡_, refl, sym, ap, subst, subst⁻¹, _∙_}
+use mathlib.Core.Path.{_≡_, ap, subst, subst⁻¹, _∙_}
 use mathlib.Core.Logic.{_⊎_, inl, inr, _↔_}
 use mathlib.Core.List.{List, [], _∷_}
 use Prim.Native.Nat.{ℕ, _+_}
 use native.Mathlib.Nat.{lt-irrefl}
 use native.Mathlib.Decide.{ℕ-discrete}
 use native.Mathlib.Omega.{arith}
-use lib.ListN.{take, getD}
+use lib.ListN.{getD}
 use Rattle.planner.specs.Sound.{Sound}
 use Rattle.planner.specs.Open.{zeros, setting, IsFresh}
 use Rattle.planner.specs.Facts.Open.{closed-is-not-sound, open-success-is-sound}

@@ -2,11 +2,10 @@
 use mathlib.Core.Path.{_≡_, refl, sym, ap, subst, _∙_}
 use mathlib.Core.Logic.{ite, if-neg}
 use mathlib.Core.List.{List, [], _∷_, _++_, append-nil, append-assoc, cons≢nil, head-eq-of-cons-eq, tail-eq-of-cons-eq}
-use Prim.Native.Nat.{ℕ, zero, suc, _+_, _≤_, _<_}
+use Prim.Native.Nat.{ℕ, _+_, _≤_}
 use native.Mathlib.Nat.{lt-irrefl}
 use native.Mathlib.Decide.{ℕ-discrete, decLe}
 use native.Mathlib.Omega.{arith}
-use lib.ListN.{length}
 use Rattle.planner.specs.declared.Planner.{Planner}
 use Rattle.alike.specs.Twins.{AreTwins}
 use Rattle.alike.specs.Facts.Twins.{equal-are-twins, still-twins}

@@ -16,7 +16,7 @@ abbrev pub HasLength : List ℕ → Type 0
 HasLength p = (6 ≤ length p) × (length p ≡ 6 + 2 * getD p 5 0)
 
 -- whether it is right can be decided
-pub decide-length : (p : List ℕ) → Dec (HasLength p)
+decide-length : (p : List ℕ) → Dec (HasLength p)
 decide-length p = Dec·and (decLe 6 (length p)) (ℕ-discrete (length p) (6 + 2 * getD p 5 0))
 
 -- Annex 10.6: 26 if the length is not right.

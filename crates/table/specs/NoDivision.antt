@@ -82,7 +82,7 @@ unfoldable mutual
   never-divides return = true
   never-divides (call n os p) = among n in-loops
 
-  pub arms-never-divide : Arms → Bool
+  arms-never-divide : Arms → Bool
   arms-never-divide (arm keys b rest) = never-divides b && arms-never-divide rest
   arms-never-divide (default b) = never-divides b
   arms-never-divide noDefault = true
@@ -103,7 +103,7 @@ unfoldable mutual
   loops-never-divide return = true
   loops-never-divide (call n os p) = true
 
-  pub loops-of-arms-never-divide : Arms → Bool
+  loops-of-arms-never-divide : Arms → Bool
   loops-of-arms-never-divide (arm keys b rest) = loops-never-divide b && loops-of-arms-never-divide rest
   loops-of-arms-never-divide (default b) = loops-never-divide b
   loops-of-arms-never-divide noDefault = true

@@ -31,12 +31,12 @@ pub put-none : {P : List ℕ → Type 0} (l : List ℕ) (at : ℕ) → P [] → 
 put-none l at nothing = record { bytes = []; property = nothing; ends = sym (add-zero at); content = sym (take-append-drop at l) }
 
 -- A property that follows from another.
-pub put-as : {P Q : List ℕ → Type 0} {before after : List ℕ} {at r : ℕ} → ((bytes : List ℕ) → P bytes → Q bytes)
+put-as : {P Q : List ℕ → Type 0} {before after : List ℕ} {at r : ℕ} → ((bytes : List ℕ) → P bytes → Q bytes)
     → IsPut P before after at r → IsPut Q before after at r
 put-as follows put = record { bytes = put .bytes; property = follows (put .bytes) (put .property); ends = put .ends; content = put .content }
 
 -- Two pieces one after the other, the second from where the first ends.
-pub put-then : {P Q R : List ℕ → Type 0} {before mid after : List ℕ} {at r₁ r₂ : ℕ} → at ≤ length before
+put-then : {P Q R : List ℕ → Type 0} {before mid after : List ℕ} {at r₁ r₂ : ℕ} → at ≤ length before
     → ((p q : List ℕ) → P p → Q q → R (p ++ q))
     → IsPut P before mid at r₁ → IsPut Q mid after r₁ r₂ → IsPut R before after at r₂
 put-then {before} {mid} {after} {at} {r₁} {r₂} inside together first second =
@@ -64,7 +64,7 @@ put-then {before} {mid} {after} {at} {r₁} {r₂} inside together first second 
     }
 
 -- A number below 10 ^ k has at most k digits.
-pub numeral-short : {bytes : List ℕ} {n : ℕ} → IsNumeral bytes n → (k : ℕ) → 1 ≤ k → n < 10 ^ k → length bytes ≤ k
+numeral-short : {bytes : List ℕ} {n : ℕ} → IsNumeral bytes n → (k : ℕ) → 1 ≤ k → n < 10 ^ k → length bytes ≤ k
 numeral-short (digit d small) k some below = some
 numeral-short (further num pos d small) zero some below = absurd (omega (arith, some))
 numeral-short (further num pos d small) (suc zero) some below = absurd (omega (arith, pos, below))
@@ -74,17 +74,17 @@ numeral-short (further {bytes} {n} num pos d small) (suc (suc k)) some below =
     omega (arith, ih, length-append bytes ((48 + d) ∷ []))
 
 -- The digits of a tenth of a number, and its last digit.
-pub last-digit : (bytes : List ℕ) (value : ℕ) → 10 ≤ value → IsNumeral bytes (value / 10) → IsNumeral (bytes ++ ((48 + value % 10) ∷ [])) value
+last-digit : (bytes : List ℕ) (value : ℕ) → 10 ≤ value → IsNumeral bytes (value / 10) → IsNumeral (bytes ++ ((48 + value % 10) ∷ [])) value
 last-digit bytes value high num =
     let longer = further num (omega (arith, high)) (value % 10) (mod-lt value (omega arith)) in
     subst (IsNumeral (bytes ++ ((48 + value % 10) ∷ []))) (omega arith) longer
 
 -- A comma and a number are one field.
-pub one-field : (bytes : List ℕ) (n : ℕ) → IsNumeral bytes n → IsFields (44 ∷ bytes) (n ∷ [])
+one-field : (bytes : List ℕ) (n : ℕ) → IsNumeral bytes n → IsFields (44 ∷ bytes) (n ∷ [])
 one-field bytes n num = subst (λ (l : List ℕ). IsFields (44 ∷ l) (n ∷ [])) (append-nil bytes) (more num none)
 
 -- Fields after fields.
-pub fields-append : {bytes ns : List ℕ} → IsFields bytes ns → (after ms : List ℕ) → IsFields after ms → IsFields (bytes ++ after) (ns ++ ms)
+fields-append : {bytes ns : List ℕ} → IsFields bytes ns → (after ms : List ℕ) → IsFields after ms → IsFields (bytes ++ after) (ns ++ ms)
 fields-append none after ms later = later
 fields-append (more {bytes} {rest} {n} {ns} num fields) after ms later =
     let all = more num (fields-append fields after ms later) in

@@ -39,7 +39,7 @@ same-given twins same given given′ =
     }
 
 -- twins answer a command alike
-pub same-answered : {p q : Planner} → AreTwins p q → (number : ℕ) (c : Command) (r s : Answered) → IsAnswered p number c r → IsAnswered q number c s
+same-answered : {p q : Planner} → AreTwins p q → (number : ℕ) (c : Command) (r s : Answered) → IsAnswered p number c r → IsAnswered q number c s
     → IsSameAnswer r s
 same-answered twins number (Open b f g t) r s is is′ =
     let same = same-opening (is .by-contract) (is′ .by-contract) in

@@ -20,7 +20,7 @@ use Rattle.command.specs.declared.lines.Reached.{Reached}
 use Rattle.command.specs.declared.step.Step.{Step}
 
 -- a line has one end
-pub line-end-unique : {bytes : List ℕ} {from from′ to to′ : ℕ} → from ≡ from′ → IsLineEnd bytes from to → IsLineEnd bytes from′ to′ → to ≡ to′
+line-end-unique : {bytes : List ℕ} {from from′ to to′ : ℕ} → from ≡ from′ → IsLineEnd bytes from to → IsLineEnd bytes from′ to′ → to ≡ to′
 line-end-unique {bytes} {from} {from′} {to} {to′} same is is′ = go (decLt to to′) (decLt to′ to)
   where
     go : Dec (to < to′) → Dec (to′ < to) → to ≡ to′
@@ -107,7 +107,7 @@ module _ {bytes out out′ : List ℕ} {s s′ : Reached} (begin : AreLevel out 
       go (no past) ih = omega arith
 
 -- Two runs from the same beginning end level.
-pub same-run : {bytes out out′ w w′ : List ℕ} {s s′ t t′ : Reached} → AreLevel out out′ s s′ out out′ → length out ≡ length out′
+same-run : {bytes out out′ w w′ : List ℕ} {s s′ t t′ : Reached} → AreLevel out out′ s s′ out out′ → length out ≡ length out′
     → HasRun s bytes out w t → HasRun s′ bytes out′ w′ t′ → AreLevel out out′ t t′ w w′
 same-run {t = t} {t′ = t′} begin room run run′ =
     runs-level begin room (run .reaches) (run′ .reaches) (go (decLe (t .number) (t′ .number)))
@@ -125,7 +125,7 @@ unmoved {out} {out′} {w} {w′} {after} {after′} {t} {t′} {r} {r′} level
     (subst (λ (l : List ℕ). AreLevel out out′ t t′ l after′) (sym f) (subst (λ (l : List ℕ). AreLevel out out′ t t′ w l) (sym f′) level)))
 
 -- and so with what is left behind the last line end
-pub same-last : {bytes out out′ w w′ after after′ : List ℕ} {t t′ r r′ : Reached} → AreLevel out out′ t t′ w w′ → length w ≡ length w′
+same-last : {bytes out out′ w w′ after after′ : List ℕ} {t t′ r r′ : Reached} → AreLevel out out′ t t′ w w′ → length w ≡ length w′
     → HasRunLast t bytes w after r → HasRunLast t′ bytes w′ after′ r′ → AreLevel out out′ r r′ after after′
 same-last {bytes} {out} {out′} {w} {w′} {after} {after′} {t} {t′} {r} {r′} level room last last′ =
     go (ℕ-discrete (t .from) (length bytes)) (decLt (length w) (t .end + 1430))

@@ -15,13 +15,13 @@ unfoldable pub value-from : ℕ → List ℕ → ℕ
 value-from m [] = m
 value-from m (byte ∷ bytes) = value-from (m * 10 + (byte - 48)) bytes
 
-pub value-append : (m : ℕ) (bytes : List ℕ) (byte : ℕ) → value-from m (bytes ++ (byte ∷ [])) ≡ value-from m bytes * 10 + (byte - 48)
+value-append : (m : ℕ) (bytes : List ℕ) (byte : ℕ) → value-from m (bytes ++ (byte ∷ [])) ≡ value-from m bytes * 10 + (byte - 48)
 unfolding value-from
 value-append m [] byte = refl
 value-append m (b ∷ bs) byte = value-append (m * 10 + (b - 48)) bs byte
 
 -- a numeral's value is that of its digits
-pub numeral-value : {bytes : List ℕ} {n : ℕ} → IsNumeral bytes n → n ≡ value-from 0 bytes
+numeral-value : {bytes : List ℕ} {n : ℕ} → IsNumeral bytes n → n ≡ value-from 0 bytes
 unfolding value-from
 numeral-value (digit d small) = omega arith
 numeral-value (further {bytes = bytes} {n = n} begun positive d small) = omega (arith, numeral-value begun, value-append 0 bytes (48 + d))

@@ -31,7 +31,7 @@ numeral-text (further {bytes} {n} numeral some d small) (further {bytes = others
     λ i. begun i ++ ((48 + last i) ∷ [])
 
 -- the same numbers have the same fields ..
-pub fields-text : {one other ns : List ℕ} → IsFields one ns → IsFields other ns → one ≡ other
+fields-text : {one other ns : List ℕ} → IsFields one ns → IsFields other ns → one ≡ other
 fields-text none none = refl
 fields-text (more numeral fields) (more numeral′ fields′) =
     let first = numeral-text numeral numeral′ refl in
@@ -56,7 +56,7 @@ same-seam one other {rest} {rest′} numeral numeral′ fields fields′ same =
     )
 
 -- .. the same fields have the same numbers
-pub fields-numbers : {bytes ns : List ℕ} → IsFields bytes ns → (other ms : List ℕ) → bytes ≡ other → IsFields other ms → ns ≡ ms
+fields-numbers : {bytes ns : List ℕ} → IsFields bytes ns → (other ms : List ℕ) → bytes ≡ other → IsFields other ms → ns ≡ ms
 fields-numbers none other ms same fields = go (fields-cases fields)
   where
     go : ((other ≡ []) × (ms ≡ [])) ⊎ IsFirst other ms → [] ≡ ms
@@ -115,7 +115,7 @@ said line Round says = inl (record { letter = 82; numbers = []; good = says; com
 said line Malformed says = inr (says, refl)
 
 -- a malformed line says nothing else
-pub malformed-says-none : (line : List ℕ) → IsMalformed line → (c : Command) → Says line c → c ≡ Malformed
+malformed-says-none : (line : List ℕ) → IsMalformed line → (c : Command) → Says line c → c ≡ Malformed
 malformed-says-none line bad (Open b f g t) says = absurd (bad .no-open b f g t says)
 malformed-says-none line bad (Add id s p d) says = absurd (bad .no-add id s p d says)
 malformed-says-none line bad (Remove id) says = absurd (bad .no-remove id says)

@@ -17,7 +17,7 @@ use Rattle.console.specs.Transcript.Transcript.{none, next}
 use Rattle.console.specs.Facts.LineEnds.{no-end-second}
 
 -- twins answer the same line with the same bytes, and twins are left
-pub same-answer : {p p′ after after′ : Planner} {number number′ : ℕ} {line line′ bytes bytes′ : List ℕ} → AreTwins p p′ → number ≡ number′ → line ≡ line′
+same-answer : {p p′ after after′ : Planner} {number number′ : ℕ} {line line′ bytes bytes′ : List ℕ} → AreTwins p p′ → number ≡ number′ → line ≡ line′
     → IsAnswer p number line bytes after → IsAnswer p′ number′ line′ bytes′ after′ → (bytes ≡ bytes′) × AreTwins after after′
 same-answer {p′ = p′} {number = number} {line = line} {bytes = bytes} {bytes′ = bytes′} twins numbers lines is is′ =
     let says′ = subst (λ (l : List ℕ). Says l (is′ .command)) (sym lines) (is′ .says) in
@@ -72,7 +72,7 @@ same-transcript twins (next {lines} {n = n} t line answer after no-end is)
     }
 
 -- after more lines of the same bytes, what was written before is the beginning
-pub answers-begin : {p p′ q q′ : Planner} {lines lines′ answers answers′ : List ℕ} {n n′ : ℕ} → AreTwins p p′
+answers-begin : {p p′ q q′ : Planner} {lines lines′ answers answers′ : List ℕ} {n n′ : ℕ} → AreTwins p p′
     → Transcript p lines answers q n → Transcript p′ lines′ answers′ q′ n′ → n ≤ n′ → (rest rest′ : List ℕ) → lines ++ rest ≡ lines′ ++ rest′
     → (more : List ℕ) × (answers′ ≡ answers ++ more)
 answers-begin {answers = answers} {n = n} twins t none less rest rest′ same =

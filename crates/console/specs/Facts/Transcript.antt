@@ -47,7 +47,7 @@ long-enough : (line more : List ℕ) → 64 ≤ length line → 64 ≤ length (t
 long-enough line more long = omega (arith, length-append (take 64 line) more, length-take-le 64 line long)
 
 -- one line more is answered
-pub line-told : {read written : List ℕ} {p : Planner} {n : ℕ} (line more answer : List ℕ) (after : Planner)
+line-told : {read written : List ℕ} {p : Planner} {n : ℕ} (line more answer : List ℕ) (after : Planner)
     → HasNoEnd line → IsAnswer p (n + 1) line answer after → Told read written p n (line ++ (10 ∷ more)) → Told read (written ++ answer) after (n + 1) more
 line-told {read} {written} {p} {n} line more answer after no-end is told = go (told .stands)
   where

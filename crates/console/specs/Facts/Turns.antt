@@ -21,7 +21,7 @@ pub record Going (s : Session) (ended : Bool) (input : List ℕ) (turns : ℕ) :
   pub at-end : ended ≡ true → HasNoEnd (at-hand s input)
 
 -- at the beginning nothing is read, written or at hand
-pub begun-told : {s : Session} → IsBegun s → (input : List ℕ) → HasTold [] [] s input
+begun-told : {s : Session} → IsBegun s → (input : List ℕ) → HasTold [] [] s input
 begun-told {s} is input =
     let nothing : at-hand s input ≡ [] =
     drop-of-length-le (take (s .have) input) {i = s .reached .from} (omega (arith, length-take (s .have) input, is .have, is .beginning .from)) in

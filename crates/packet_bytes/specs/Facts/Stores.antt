@@ -20,7 +20,7 @@ six-stored (_ ∷ _ ∷ []) a b c d e f long = absurd (omega (arith, long))
 six-stored (_ ∷ []) a b c d e f long = absurd (omega (arith, long))
 six-stored [] a b c d e f long = absurd (omega (arith, long))
 
-pub id-bytes-append : (xs ys : List ℕ) → id-bytes (xs ++ ys) ≡ id-bytes xs ++ id-bytes ys
+id-bytes-append : (xs ys : List ℕ) → id-bytes (xs ++ ys) ≡ id-bytes xs ++ id-bytes ys
 unfolding id-bytes
 id-bytes-append [] ys = refl
 id-bytes-append (x ∷ xs) ys = ap (λ (l : List ℕ). x / 256 ∷ x % 256 ∷ l) (id-bytes-append xs ys)

@@ -35,7 +35,7 @@ twenty-seven-exactly p v same = (
 )
 
 -- what a read of a good packet gives, with the values whose bytes it is
-pub read-gives : (v : Values) → IsGood v → (r : Header) → IsRead (bytes-of v) r → (r ≡ header-of v) × (ids-part (bytes-of v) ≡ id-bytes (v .ids))
+read-gives : (v : Values) → IsGood v → (r : Header) → IsRead (bytes-of v) r → (r ≡ header-of v) × (ids-part (bytes-of v) ≡ id-bytes (v .ids))
 read-gives v good r is =
     let zero = good-is-read (bytes-of v) (v, refl, good) in
     let given = is .read zero in

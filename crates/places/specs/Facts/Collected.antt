@@ -14,11 +14,11 @@ use Rattle.places.specs.Collected.{collected, Once, IsSet}
 use Rattle.places.specs.Facts.Entries.{InOrder, in-put, put-new, put-old, put-length, put-in-order, in-order-unique}
 
 module _ (at : ℕ → Entry) where
-  pub collected-some : (i : ℕ) → 1 ≤ at i .id → collected at (suc i) ≡ put (at i) (collected at i)
+  collected-some : (i : ℕ) → 1 ≤ at i .id → collected at (suc i) ≡ put (at i) (collected at i)
   unfolding collected
   collected-some i holds = if-pos (decLe 1 (at i .id)) holds (put (at i) (collected at i)) (collected at i)
 
-  pub collected-none : (i : ℕ) → at i .id ≡ 0 → collected at (suc i) ≡ collected at i
+  collected-none : (i : ℕ) → at i .id ≡ 0 → collected at (suc i) ≡ collected at i
   unfolding collected
   collected-none i free = if-neg (decLe 1 (at i .id)) (λ holds. omega arith) (put (at i) (collected at i)) (collected at i)
 

@@ -33,13 +33,13 @@ entry-set = hedberg entry-discrete
 pub before-asym : (a b : Entry) → Before a b → Before b a → ⊥
 before-asym a b = then-asym (then-asym (λ l m. omega (arith, l, m)))
 
-pub before-trans : (a b c : Entry) → Before a b → Before b c → Before a c
+before-trans : (a b c : Entry) → Before a b → Before b c → Before a c
 before-trans a b c = then-trans (then-trans (λ l m. omega (arith, l, m)))
 
 pub before-prop : (a b : Entry) → IsProp (Before a b)
 before-prop a b = then-prop (then-prop le-prop)
 
-pub before-total : (a b : Entry) → (a ≡ b → ⊥) → (Before a b → ⊥) → Before b a
+before-total : (a b : Entry) → (a ≡ b → ⊥) → (Before a b → ⊥) → Before b a
 before-total a b differ = then-total (λ key. then-total (λ release not-less. above (a .id) (b .id) not-less (λ id. differ (entry-path a b key release id))))
   where
     above : (m n : ℕ) → (m < n → ⊥) → (m ≡ n → ⊥) → n < m

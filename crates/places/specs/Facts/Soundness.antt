@@ -44,7 +44,7 @@ span-last {ids} {keys} {m} range least =
     go span i inside holds (inr w) = omega (arith, span i (w .0) (inside, holds) (w .1, w .2), w .3)
 
 -- ids differ exactly if each is new where it stands
-pub once-from : (ids : ℕ → ℕ) → Below 64 (New ids) → (i j : ℕ) → Full ids i → Full ids j → ids i ≡ ids j → i ≡ j
+once-from : (ids : ℕ → ℕ) → Below 64 (New ids) → (i j : ℕ) → Full ids i → Full ids j → ids i ≡ ids j → i ≡ j
 once-from ids new i j hi hj same = go (decLt i j) (decLt j i)
   where
     go : Dec (i < j) → Dec (j < i) → i ≡ j
@@ -52,7 +52,7 @@ once-from ids new i j hi hj same = go (decLt i j) (decLt j i)
     go (no not-less) (yes more) = absurd (new i (hi .0) (hi .1) j more (sym same))
     go (no not-less) (no not-more) = omega arith
 
-pub once-to : (ids : ℕ → ℕ) → ((i j : ℕ) → Full ids i → Full ids j → ids i ≡ ids j → i ≡ j) → Below 64 (New ids)
+once-to : (ids : ℕ → ℕ) → ((i j : ℕ) → Full ids i → Full ids j → ids i ≡ ids j → i ≡ j) → Below 64 (New ids)
 once-to ids once i inside holds j less same =
     lt-irrefl i (omega (arith, once i j (inside, holds) (omega arith, rw same holds) (sym same)))
 

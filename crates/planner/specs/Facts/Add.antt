@@ -34,12 +34,12 @@ use Rattle.planner.specs.Needs.{stored, CanAdd, CanTest}
 use Rattle.planner.specs.declared.Planner.{Planner}
 
 -- the numbers of a sound planner
-pub sound-numbers : (p : Planner) → Sound p → NumbersInRange (setting-of (content p))
+sound-numbers : (p : Planner) → Sound p → NumbersInRange (setting-of (content p))
 sound-numbers p sound = range-numbers (sound .content-sound .in-range)
 
 module _ {p : Planner} (sound : Sound p) (long : length (p .table .streams) ≡ 64) where
   -- as many records as the table's count says
-  pub sound-count : length (content p .table) ≡ p .table .count
+  sound-count : length (content p .table) ≡ p .table .count
   sound-count = records-count (p .table) (omega (arith, long, sound .count))
 
   -- the test for 8
@@ -62,7 +62,7 @@ module _ (h : Content) (start : ℕ) where
 
 module _ (h : Content) (o : Offer) where
   -- none of 6 to 11 applies to an offer that is well formed ..
-  pub offer-passes : IsWellFormed h o → AllPass (offer-refusals h o)
+  offer-passes : IsWellFormed h o → AllPass (offer-refusals h o)
   unfolding AllPass
   offer-passes formed = (
     λ bad. bad (formed .id),
@@ -76,7 +76,7 @@ module _ (h : Content) (o : Offer) where
   )
 
   -- .. and one that none of them applies to is
-  pub passes-offer : AllPass (offer-refusals h o) → IsWellFormed h o
+  passes-offer : AllPass (offer-refusals h o) → IsWellFormed h o
   unfolding AllPass
   passes-offer pass =
       let period-in = Dec·not-not (Dec·and (Dec·and (decLe 1 (o .period)) (decLe (o .period) 240)) (decDvd (o .period) (h .frame))) .0 (pass .1 .1 .1 .0) in
@@ -99,7 +99,7 @@ module _ (h : Content) (o : Offer) where
       passes-offer (zero-all-pass (offer-refusals h o) (omega arith, (omega arith, (omega arith, (omega arith, (omega arith, (omega arith, tt)))))) zero)
 
 -- what neither 12 nor 13 applies to keeps both rules
-pub rules-passed : (h : Content) → answer-of (rule-refusals h) ≡ 0
+rules-passed : (h : Content) → answer-of (rule-refusals h) ≡ 0
     → DemandRule (slots-of h) (streams-in h) × StartRule (slots-of h) (now-of h) (streams-in h)
 unfolding AllNumbered AllPass
 rules-passed h zero =

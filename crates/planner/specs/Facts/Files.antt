@@ -32,7 +32,7 @@ in-entries rs e = (
 
 module _ (es : List Entry) (rs : List Record) (files : Files es rs) where
   -- each record's entry is filed
-  pub files-entry : (s : Record) → List·Mem s rs → List·Mem (entry-of s) es
+  files-entry : (s : Record) → List·Mem s rs → List·Mem (entry-of s) es
   files-entry s m = files (entry-of s) .1 ∣ (s, m, refl) ∣₁
 
   -- the ids filed are those of the records

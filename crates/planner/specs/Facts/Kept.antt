@@ -55,11 +55,11 @@ seen-sent-at h s r = go (decMem ℕ-discrete (r .id) (ids-at h s))
     go (no other) = refl
 
 -- what is in range stays so with another table ..
-pub with-table-in-range : {h : Content} {rs : List Record} → InRange h → length rs ≤ 64 → RecordsInRange (h .frame) rs → InRange (with-table h rs)
+with-table-in-range : {h : Content} {rs : List Record} → InRange h → length rs ≤ 64 → RecordsInRange (h .frame) rs → InRange (with-table h rs)
 with-table-in-range range = in-range-by-numbers (range-numbers range)
 
 -- .. and with another last start
-pub with-last-in-range : {h : Content} → InRange h → (s : ℕ) → s ≤ 1_000_000_000 → InRange (with-last h s)
+with-last-in-range : {h : Content} → InRange h → (s : ℕ) → s ≤ 1_000_000_000 → InRange (with-last h s)
 with-last-in-range range s by-last =
     record { slots = range .slots; frame = range .frame; gap = range .gap; last = by-last; at-most = range .at-most; records = range .records }
 

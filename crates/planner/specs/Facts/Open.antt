@@ -51,7 +51,7 @@ pub with-empty-queue : (s : Setting) (q : Queue) → q ≡ empty-queue → IsFre
 with-empty-queue s q is = record { whole = rw is; holds = refl }
 
 -- a fresh planner with its numbers in range is sound
-pub fresh-is-sound : (s : Setting) → NumbersInRange s → (p : Planner) → IsFresh s p → Sound p
+fresh-is-sound : (s : Setting) → NumbersInRange s → (p : Planner) → IsFresh s p → Sound p
 fresh-is-sound s numbers p is =
     subst⁻¹ Sound (is .whole)
     (record {

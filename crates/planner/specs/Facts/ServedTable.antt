@@ -39,7 +39,7 @@ serve-all [] rs = rs
 serve-all (id ∷ ids) rs = serve-all ids (serve id rs)
 
 -- the last id is served last
-pub serve-all-snoc : (ids : List ℕ) (id : ℕ) (rs : List Record) → serve-all (ids ++ (id ∷ [])) rs ≡ serve id (serve-all ids rs)
+serve-all-snoc : (ids : List ℕ) (id : ℕ) (rs : List Record) → serve-all (ids ++ (id ∷ [])) rs ≡ serve id (serve-all ids rs)
 unfolding serve-all
 serve-all-snoc [] id rs = refl
 serve-all-snoc (i ∷ ids) id rs = serve-all-snoc ids id (serve i rs)
@@ -65,7 +65,7 @@ one-more id ids new r =
     among l n = decMem ℕ-discrete n l
 
 -- records of different ids, served one after the other, are those sent at once
-pub serve-all-sent : (ids : List ℕ) (rs : List Record) → List·Nodup ids → serve-all ids rs ≡ map (sent-in ids) rs
+serve-all-sent : (ids : List ℕ) (rs : List Record) → List·Nodup ids → serve-all ids rs ≡ map (sent-in ids) rs
 unfolding serve serve-all
 serve-all-sent [] rs distinct =
     sym (map-congr-left {f = sent-in []} {g = λ (r : Record). r} {l = rs} (λ r m. if-neg (decMem ℕ-discrete (r .id) []) not-mem-nil (sent r) r) ∙ map-id rs)

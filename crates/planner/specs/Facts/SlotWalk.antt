@@ -20,7 +20,7 @@ use Rattle.queue.specs.InterfaceLaws.{InOrder, before-prop, in-order-unique}
 use Rattle.planner.specs.Sound.{entry-of, Files}
 
 -- Whether an entry is released by s.
-pub released : (s : ℕ) (e : Entry) → Dec (e .release ≤ s)
+released : (s : ℕ) (e : Entry) → Dec (e .release ≤ s)
 released s e = decLe (e .release) s
 
 -- The ids of those of some entries that are released by s.
@@ -68,7 +68,7 @@ module _ (s : ℕ) (rs : List Record) (es : List Entry) (table : IsTable (as-str
         in-order-unique (filter (released s) es) (map seen-entry line) (Pairwise·filter (released s) ordered)
         (Pairwise·map before-prop seen-entry (λ x y earlier. earlier) (line-in-order s (as-streams rs) table)) to-line from-line
 
-    pub line-ids : released-ids s es ≡ map (λ (x : Stream). x .number) line
+    line-ids : released-ids s es ≡ map (λ (x : Stream). x .number) line
     unfolding released-ids
     line-ids = ap (map (λ (e : Entry). e .id)) released-line ∙ map-map (λ (e : Entry). e .id) seen-entry line
 

@@ -39,7 +39,7 @@ module _ (h : Content) (sound : ContentSound h) where
       (sound .demand-rule)
 
   -- what a sound planner holds has a start
-  pub content-start : (s : ℕ) × IsLazyStart (slots-of h) (cap-of h) (streams-in h) s
+  content-start : (s : ℕ) × IsLazyStart (slots-of h) (cap-of h) (streams-in h) s
   content-start =
       lazy-exists (slots-of h) (cap-of h) (h .frame) (now-of h) (streams-in h) (sound .in-range .slots .0) all-formed frame-is-busy fits-now
 

@@ -25,7 +25,7 @@ use Rattle.table.specs.Facts.Records.{numbers, as-streams-put, as-streams-witho
 use Rattle.table.specs.declared.Record.{Record}
 
 -- the table with a stream has that stream and those it had
-pub put-by-id-perm : (x : Record) (rs : List Record) → Perm (put-by-id x rs) (x ∷ rs)
+put-by-id-perm : (x : Record) (rs : List Record) → Perm (put-by-id x rs) (x ∷ rs)
 unfolding put-by-id
 put-by-id-perm x [] = Perm·refl (x ∷ [])
 put-by-id-perm x (y ∷ ys) = go (decLt (x .id) (y .id)) (put-by-id-perm x ys)

@@ -53,7 +53,7 @@ module _ (q : Queue) (out : ℕ) (new : Entry) (es : List Entry) (bounds : InBou
       ∥∥₁-elim (inside e m) (×-prop le-prop le-prop)
       (λ w. subst⁻¹ (λ (f : Entry). (new .key ≤ f .key + 479) × (f .key ≤ new .key + 479)) (w .4) (fits .1 (w .0) (w .1) (w .2) (w .3)))
 
-  pub fits-in-bounds : new .release ≤ new .key → KeyFits (q .ids) (q .keys) out (new .key) → InBounds (put new es)
+  fits-in-bounds : new .release ≤ new .key → KeyFits (q .ids) (q .keys) out (new .key) → InBounds (put new es)
   fits-in-bounds before fits =
       record {
         keys = λ e m. Or·elim le-prop (in-put new es e m) (λ same. rw same (fits .0)) (bounds .keys e);
@@ -64,7 +64,7 @@ module _ (q : Queue) (out : ℕ) (new : Entry) (es : List Entry) (bounds : InBou
             (λ d-old. Or·elim le-prop (in-put new es e me) (λ e-new. rw e-new (beside fits d d-old .1)) (λ e-old. bounds .span d e d-old e-old));
       }
 
-  pub in-bounds-fits : InBounds (put new es) → KeyFits (q .ids) (q .keys) out (new .key)
+  in-bounds-fits : InBounds (put new es) → KeyFits (q .ids) (q .keys) out (new .key)
   in-bounds-fits within = (
     within .keys new (put-new new es),
     λ i below other some.
@@ -106,10 +106,10 @@ module _ (q : Queue) (sound : Sound q) where
     rest-bounds : InBounds (without id (entries q))
     rest-bounds = fewer-in-bounds (entries q) (without id (entries q)) (in-without id (entries q)) (sound-in-bounds q sound)
 
-    pub move-bounds : (e : Entry) → e .release ≤ e .key → KeyFits (q .ids) (q .keys) x (e .key) → InBounds (put e (without id (entries q)))
+    move-bounds : (e : Entry) → e .release ≤ e .key → KeyFits (q .ids) (q .keys) x (e .key) → InBounds (put e (without id (entries q)))
     move-bounds e = fits-in-bounds q x e (without id (entries q)) rest-bounds of-rest all-rest
 
-    pub move-key-fits : (e : Entry) → InBounds (put e (without id (entries q))) → KeyFits (q .ids) (q .keys) x (e .key)
+    move-key-fits : (e : Entry) → InBounds (put e (without id (entries q))) → KeyFits (q .ids) (q .keys) x (e .key)
     move-key-fits e = in-bounds-fits q x e (without id (entries q)) rest-bounds of-rest all-rest
 
 -- id 0 is never filed

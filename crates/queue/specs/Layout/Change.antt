@@ -51,7 +51,7 @@ new-id-rank q sound e r new before within is =
     }
 
 module _ (q : Queue) (e : Entry) (can : CanInsert q e) where
-  pub insert-new : IsNew q (e .id)
+  insert-new : IsNew q (e .id)
   insert-new =
       record {
         some = can .some;
@@ -60,7 +60,7 @@ module _ (q : Queue) (e : Entry) (can : CanInsert q e) where
       }
 
   -- with fewer than 64 entries some place is free
-  pub insert-place : (x : ℕ) → IsPlaceOf (q .ids) 0 x → x < 64
+  insert-place : (x : ℕ) → IsPlaceOf (q .ids) 0 x → x < 64
   unfolding entries
   insert-place x place = go (decLt x 64)
     where

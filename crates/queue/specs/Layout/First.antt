@@ -18,7 +18,7 @@ use Rattle.queue.specs.declared.Queue.{Queue}
 use Rattle.queue.specs.declared.Found.{Found}
 
 -- a sound queue passes 5
-pub first-none : {q : Queue} (d : Dec (Sound q)) → Sound q → first-of d [] ≡ refused-find 25
+first-none : {q : Queue} (d : Dec (Sound q)) → Sound q → first-of d [] ≡ refused-find 25
 unfolding first-of
 first-none (no unsound) sound = absurd (unsound sound)
 first-none (yes s) sound = refl

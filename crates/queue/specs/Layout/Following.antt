@@ -31,7 +31,7 @@ module _ (q : Queue) (sound : Sound q) (key n : ℕ) (stands : StandsAt q key n)
       ∥∥₁-elim (stands .held) (×-prop le-prop le-prop)
       (λ h. (omega (arith, sound .span i (h .0) holds (h .1), h .2), omega (arith, sound .span (h .0) i (h .1) holds, h .2)))
 
-  pub from-here : SearchFrom q key point
+  from-here : SearchFrom q key point
   from-here i holds after = (not-before i after, near i holds .0)
 
   -- so the bucket has no other key

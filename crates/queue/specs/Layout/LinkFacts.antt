@@ -11,7 +11,7 @@ use Rattle.queue.specs.Layout.{IsNode, bucket-of}
 use Rattle.queue.specs.Layout.Ranks.{low, high, RankLinked, AllRankLinked, low-place, low-head, high-place, bucket-head}
 
 -- a node with a low end above 0 is an entry
-pub positive-low : (ranks : ℕ → ℕ) (x : ℕ) → IsNode ranks x → 0 < low ranks x → (x < 64) × (1 ≤ ranks x)
+positive-low : (ranks : ℕ → ℕ) (x : ℕ) → IsNode ranks x → 0 < low ranks x → (x < 64) × (1 ≤ ranks x)
 positive-low ranks x (inl place) some = place
 positive-low ranks x (inr head) some = absurd (lt-irrefl 0 (omega (arith, low-head ranks x (head .0), some)))
 

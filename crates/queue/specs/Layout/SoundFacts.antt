@@ -49,11 +49,11 @@ unfolding entries
 in-entries q i holds = in-collected (entry-at q) 64 i (holds .0) (holds .1)
 
 -- a node is one by its rank as by its id
-pub rank-node : (q : Queue) (x : ℕ) → IsNode (rank-at q) x → IsNode (id-at q) x
+rank-node : (q : Queue) (x : ℕ) → IsNode (rank-at q) x → IsNode (id-at q) x
 rank-node q x (inl place) = inl (place .0, holds-rank (release-at q x) (id-at q x) (place .1))
 rank-node q x (inr head) = inr head
 
-pub node-rank : (q : Queue) (x : ℕ) → IsNode (id-at q) x → IsNode (rank-at q) x
+node-rank : (q : Queue) (x : ℕ) → IsNode (id-at q) x → IsNode (rank-at q) x
 node-rank q x (inl place) = inl (place .0, rank-holds (release-at q x) (id-at q x) (place .1))
 node-rank q x (inr head) = inr head
 

@@ -16,7 +16,7 @@ packet-discrete p q = go (ℕ-discrete (p .number) (q .number)) (ℕ-discrete (p
     go (yes a) (yes b) (no c) = no (λ e. c (ap (λ (x : Packet). x .due) e))
     go (yes a) (yes b) (yes c) = yes (packet-path p q a b c)
 
-pub stream-discrete : Discrete Stream
+stream-discrete : Discrete Stream
 stream-discrete p q =
     go (ℕ-discrete (p .number) (q .number)) (ℕ-discrete (p .period) (q .period)) (ℕ-discrete (p .deadline) (q .deadline)) (ℕ-discrete (p .release) (q .release))
   where

@@ -87,7 +87,7 @@ module _ (ss : List Stream) (table : IsTable ss) where
   numbers-stay [] = refl
   numbers-stay (x ∷ xs) = rw (numbers-stay xs)
 
-  pub at-zero-is-table : IsTable (map at-zero ss)
+  at-zero-is-table : IsTable (map at-zero ss)
   at-zero-is-table = record { well-formed = at-zero-well-formed ss (table .well-formed); differ = rw (numbers-stay ss) (table .differ) }
 
   demand-stays : (xs : List Stream) (t : ℕ) → demand (map at-zero xs) t ≡ demand xs t

@@ -20,7 +20,7 @@ use Rattle.rules.specs.Facts.DuePackets.{due-list, length-due-list, in-d
 use Rattle.rules.specs.Facts.RoundKept.{passed-table, passed-elim, served-iff}
 
 -- packet k after the next is packet k + 1
-pub packet-next : (s : Stream) (k : ℕ) → packet (next s) k ≡ packet s (suc k)
+packet-next : (s : Stream) (k : ℕ) → packet (next s) k ≡ packet s (suc k)
 packet-next s k =
     packet-path (packet (next s) k) (packet s (suc k)) refl (omega (arith, suc-mul k (s .period))) (omega (arith, suc-mul k (s .period)))
 

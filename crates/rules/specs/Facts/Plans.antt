@@ -27,11 +27,11 @@ module _ (b moment : ℕ) (plan : ℕ → Round) (is-plan : IsPlan b moment plan
   rounds-room n (suc m) = rw (length-append, mul-suc) (omega (arith, is-plan .room (n + m), rounds-room n m))
 
   -- starts rise by one a round at least
-  pub starts-rise : (n k : ℕ) → plan n .start + k ≤ plan (n + k) .start
+  starts-rise : (n k : ℕ) → plan n .start + k ≤ plan (n + k) .start
   starts-rise n zero = let e : n + 0 ≡ n = omega arith in rw e (omega arith)
   starts-rise n (suc k) = let e : n + suc k ≡ suc (n + k) = omega arith in rw e (omega (arith, starts-rise n k, is-plan .rising (n + k)))
 
-  pub starts-mono : (m n : ℕ) → m ≤ n → plan m .start ≤ plan n .start
+  starts-mono : (m n : ℕ) → m ≤ n → plan m .start ≤ plan n .start
   starts-mono m n le = let e : m + (n - m) ≡ n = omega arith in omega (arith, rw e at (starts-rise m (n - m)))
 
   -- what is sent in one of the rounds is among their packets ..

@@ -151,7 +151,7 @@ module _ (b s : ℕ) (ss chosen : List Stream) (table : IsTable ss) (choice : Is
 
 module _ (chosen ss : List Stream) where
   -- numbers, periods and deadlines stay
-  pub passed-numbers : map (λ (x : Stream). x .number) (passed-table chosen ss) ≡ map (λ (x : Stream). x .number) ss
+  passed-numbers : map (λ (x : Stream). x .number) (passed-table chosen ss) ≡ map (λ (x : Stream). x .number) ss
   passed-numbers = go ss
     where
       go : (xs : List Stream) → map (λ (x : Stream). x .number) (map (passed chosen) xs) ≡ map (λ (x : Stream). x .number) xs
@@ -167,7 +167,7 @@ module _ (chosen ss : List Stream) where
         differ = rw passed-numbers (table .differ);
       }
 
-  pub passed-demand : (t : ℕ) → demand (passed-table chosen ss) t ≡ demand ss t
+  passed-demand : (t : ℕ) → demand (passed-table chosen ss) t ≡ demand ss t
   unfolding demand
   passed-demand t = go ss
     where
@@ -176,11 +176,11 @@ module _ (chosen ss : List Stream) where
       go (x ∷ xs) =
           rw (go xs, passed-elim chosen (λ y. packets-by (y .period) (y .deadline) t ≡ packets-by (x .period) (x .deadline) t) x (λ _. refl) (λ _. refl))
 
-  pub passed-demand-rule : (b : ℕ) → DemandRule b ss → DemandRule b (passed-table chosen ss)
+  passed-demand-rule : (b : ℕ) → DemandRule b ss → DemandRule b (passed-table chosen ss)
   passed-demand-rule b rule t some = rw (passed-demand t) (rule t some)
 
   -- where periods are at most span + 1 and the chosen were released by s, a release within span of now stays within span of the next now
-  pub passed-near : (span now s : ℕ) → now ≤ s → ((x : Stream) → List·Mem x ss → (x .period ≤ span + 1) × (x .release ≤ now + span))
+  passed-near : (span now s : ℕ) → now ≤ s → ((x : Stream) → List·Mem x ss → (x .period ≤ span + 1) × (x .release ≤ now + span))
       → ((x : Stream) → List·Mem x ss → Served chosen x → x .release ≤ s) → (y : Stream) → List·Mem y (passed-table chosen ss) → y .release ≤ s + 1 + span
   passed-near span now s before near released =
       all-map (λ y. y .release ≤ s + 1 + span) (λ y. le-prop) (passed chosen) ss

@@ -90,7 +90,7 @@ put-keeps-order x (y ∷ ys) sorted differ = go (goes-before x y) refl (put-keep
         (λ same. subst⁻¹ (Earlier y) same (before-no x y (differ y mem-cons-self) e)) (later z)) below
 
 -- streams of different numbers are put in order
-pub in-order-is-sorted : (xs : List Stream) → Pairwise Differ xs → InSlotOrder (in-order xs)
+in-order-is-sorted : (xs : List Stream) → Pairwise Differ xs → InSlotOrder (in-order xs)
 unfolding in-order
 in-order-is-sorted [] differ = Pairwise·nil
 in-order-is-sorted (x ∷ xs) differ =

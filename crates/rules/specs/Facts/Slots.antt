@@ -92,7 +92,7 @@ put-sorted x (y ∷ ys) sorted = go (goes-before x y) refl (put-sorted x ys (pai
         (λ z m. Or·elim le-prop (eq-or-mem-of-mem-cons (Perm·mem-iff (put-perm x ys) .0 m)) (λ same. rw same (before-false x y e)) (λ m′. later z m′))
         below
 
-pub in-order-sorted : (xs : List Stream) → ByDue (in-order xs)
+in-order-sorted : (xs : List Stream) → ByDue (in-order xs)
 unfolding in-order
 in-order-sorted [] = Pairwise·nil
 in-order-sorted (x ∷ xs) = put-sorted x (in-order xs) (in-order-sorted xs)
@@ -113,7 +113,7 @@ unfolding riders
 rider-iff s ss x = mem-filter (λ (y : Stream). may-ride (packet y 0) s)
 
 -- streams told apart by number are different streams
-pub nodup-streams : (ss : List Stream) → IsTable ss → List·Nodup ss
+nodup-streams : (ss : List Stream) → IsTable ss → List·Nodup ss
 nodup-streams ss table = Pairwise·of-map (λ (x : Stream). x .number) (λ x y differ same. differ (ap (λ (z : Stream). z .number) same)) (table .differ)
 
 -- the streams of a choice differ in number

@@ -55,7 +55,7 @@ unfolding new-number
 is-table [] = true
 is-table (s ∷ ss) = leb 1 (s .deadline) && (leb (s .deadline) (s .period) && (new-number (s .number) ss && is-table ss))
 
-pub tested-table : (ss : List Stream) → So (is-table ss) → IsTable ss
+tested-table : (ss : List Stream) → So (is-table ss) → IsTable ss
 unfolding is-table
 tested-table [] tested = record { well-formed = λ s m. absurd (not-mem-nil m); differ = nodup-nil }
 tested-table (s ∷ ss) tested =
@@ -73,7 +73,7 @@ unfoldable pub is-busy : ℕ → List Stream → ℕ → Bool
 unfolding most-in
 is-busy b ss T = leb 1 T && leb (most-in ss T) (b * T)
 
-pub tested-busy : (b T : ℕ) (ss : List Stream) → So (is-busy b ss T) → IsBusy b ss T
+tested-busy : (b T : ℕ) (ss : List Stream) → So (is-busy b ss T) → IsBusy b ss T
 unfolding is-busy
 tested-busy b T ss tested =
     let split : So (leb 1 T) × So (leb (most-in ss T) (b * T)) = both tested in

@@ -18,7 +18,7 @@ use Rattle.table.specs.declared.Record.{Record}
 use Rattle.table.specs.declared.Table.{Table}
 
 -- a new record belongs before the first greater id
-pub put-at : (x : Record) (rs : List Record) (k : ℕ) → k ≤ length rs → ((j : ℕ) → j < k → row-at rs j .id ≤ x .id)
+put-at : (x : Record) (rs : List Record) (k : ℕ) → k ≤ length rs → ((j : ℕ) → j < k → row-at rs j .id ≤ x .id)
     → (k < length rs → x .id < row-at rs k .id) → put-by-id x rs ≡ opened k x rs
 unfolding put-by-id
 put-at x [] zero within earlier later = refl
@@ -38,7 +38,7 @@ earlier-differs x xs ascending k id within here same =
 later-differs : (x : Record) (xs : List Record) → Ascending (x ∷ xs) → (id : ℕ) → x .id ≡ id → (y : Record) → List·Mem y xs → y .id ≡ id → ⊥
 later-differs x xs ascending id here y m same = lt-irrefl id (omega (arith, pairwise-cons .0 ascending .0 y m))
 
-pub without-at : (id : ℕ) (rs : List Record) → Ascending rs → (k : ℕ) → k < length rs → row-at rs k .id ≡ id → without-id id rs ≡ closed k rs
+without-at : (id : ℕ) (rs : List Record) → Ascending rs → (k : ℕ) → k < length rs → row-at rs k .id ≡ id → without-id id rs ≡ closed k rs
 unfolding without-id
 without-at id [] ascending k within here = absurd (lt-irrefl 0 (omega arith))
 without-at id (x ∷ xs) ascending zero within here =
@@ -48,7 +48,7 @@ without-at id (x ∷ xs) ascending (suc k) within here =
     if-pos (Dec·not (ℕ-discrete (x .id) id)) (earlier-differs x xs ascending k id (omega arith) here) (x ∷ without-id id xs) (without-id id xs)
     ∙ ap (λ (r : List Record). x ∷ r) (without-at id xs (pairwise-cons .0 ascending .1) k (omega arith) here)
 
-pub serve-at : (id : ℕ) (rs : List Record) → Ascending rs → (k : ℕ) → k < length rs → row-at rs k .id ≡ id → serve id rs ≡ set rs k (sent (row-at rs k))
+serve-at : (id : ℕ) (rs : List Record) → Ascending rs → (k : ℕ) → k < length rs → row-at rs k .id ≡ id → serve id rs ≡ set rs k (sent (row-at rs k))
 unfolding serve
 serve-at id [] ascending k within here = absurd (lt-irrefl 0 (omega arith))
 serve-at id (x ∷ xs) ascending zero within here =

@@ -52,7 +52,7 @@ module _ (table : Table) (few : table .count ≤ 64) (within : table .count ≤ 
       go (no free) (no later) = omega (arith, is-ids .free i (omega arith) (omega arith), is-ids .free j (omega arith) inside)
 
   -- an id is found at its record's place
-  pub id-found : (k r : ℕ) → k < table .count → IsPlaceAmong ids (record-at table k .id) r → r ≡ k
+  id-found : (k r : ℕ) → k < table .count → IsPlaceAmong ids (record-at table k .id) r → r ≡ k
   id-found k r below place = place-found (table .count) k few ids-ascend below (is-ids .ids k below) place
 
   -- so the place of an id that is held is one of the table's

@@ -72,7 +72,7 @@ module _ (p : ℕ) (positive : 1 ≤ p) (d t : ℕ) where
       go (yes more) = absurd (later (omega (arith, next-is-after, counted-iff-due p positive d (t + 1) (packets-by p d t) .0 more)))
       go (no none) = omega (arith, packets-mono p positive d t (t + 1) (omega arith))
 
-  pub packets-step : packets-by p d (t + 1) ≡ packets-by p d t + hits (next-after p d t) (t + 1)
+  packets-step : packets-by p d (t + 1) ≡ packets-by p d t + hits (next-after p d t) (t + 1)
   packets-step = go (ℕ-discrete (next-after p d t) (t + 1))
     where
       go : Dec (next-after p d t ≡ t + 1) → packets-by p d (t + 1) ≡ packets-by p d t + hits (next-after p d t) (t + 1)
@@ -87,7 +87,7 @@ module _ (p : ℕ) (positive : 1 ≤ p) (d t : ℕ) where
   unfolding next-after
   missed-stays later = rw (packets-missed later) refl
 
-  pub next-step : after-hit (next-after p d t) (t + 1) p ≡ next-after p d (t + 1)
+  next-step : after-hit (next-after p d t) (t + 1) p ≡ next-after p d (t + 1)
   next-step = go (ℕ-discrete (next-after p d t) (t + 1))
     where
       go : Dec (next-after p d t ≡ t + 1) → after-hit (next-after p d t) (t + 1) p ≡ next-after p d (t + 1)

@@ -18,7 +18,7 @@ use Rattle.table.specs.declared.Record.{Record}
 use Rattle.table.specs.declared.Table.{Table}
 
 -- rows that agree on the first n places are the same on them
-pub same-rows : (old new : List Record) (n : ℕ) → n ≤ length old → n ≤ length new → ((j : ℕ) → j < n → row-at new j ≡ row-at old j)
+same-rows : (old new : List Record) (n : ℕ) → n ≤ length old → n ≤ length new → ((j : ℕ) → j < n → row-at new j ≡ row-at old j)
     → take n new ≡ take n old
 same-rows old new zero long long′ same = refl
 same-rows [] new (suc n) long long′ same = absurd (lt-irrefl 0 (omega arith))
@@ -28,7 +28,7 @@ same-rows (x ∷ xs) (y ∷ ys) (suc n) long long′ same =
     ∙ ap (λ (r : List Record). x ∷ r) (same-rows xs ys n (omega arith) (omega arith) (λ j low. same (suc j) (omega arith)))
 
 -- rows that agree before place k, and from there on with the next place, are the old ones with k closed
-pub closes : (old new : List Record) (k n : ℕ) → k ≤ n → n < length old → n ≤ length new → ((j : ℕ) → j < k → row-at new j ≡ row-at old j)
+closes : (old new : List Record) (k n : ℕ) → k ≤ n → n < length old → n ≤ length new → ((j : ℕ) → j < k → row-at new j ≡ row-at old j)
     → ((j : ℕ) → k ≤ j → j < n → row-at new j ≡ row-at old (suc j)) → take n new ≡ closed k (take (suc n) old)
 closes [] new k n within long long′ before after = absurd (lt-irrefl 0 (omega arith))
 closes (x ∷ xs) new zero n within long long′ before after = same-rows xs new n (omega arith) (omega arith) (λ j low. after j (omega arith) low)
@@ -41,7 +41,7 @@ closes (x ∷ xs) (y ∷ ys) (suc k) (suc n) within long long′ before after =
     (λ j from low. after (suc j) (omega arith) (omega arith)))
 
 -- rows that agree before place k, and from there on with the place before, are the old ones with k opened
-pub opens : (x : Record) (old new : List Record) (k n : ℕ) → k ≤ n → n ≤ length old → n < length new → ((j : ℕ) → j < k → row-at new j ≡ row-at old j)
+opens : (x : Record) (old new : List Record) (k n : ℕ) → k ≤ n → n ≤ length old → n < length new → ((j : ℕ) → j < k → row-at new j ≡ row-at old j)
     → row-at new k ≡ x → ((j : ℕ) → k ≤ j → j < n → row-at new (suc j) ≡ row-at old j) → take (suc n) new ≡ opened k x (take n old)
 opens x old [] k n within long long′ before here after = absurd (lt-irrefl 0 (omega arith))
 opens x old (y ∷ ys) zero n within long long′ before here after =

@@ -31,7 +31,7 @@ pub empty-table : {b x cap T : ℕ} {table : Table} → CanFindStart b x cap T t
 empty-table {b} {x} {cap} {T} {table} can none = nothing-due b x cap (streams-of table) (can .now .0) (can .cap) (no-streams table none)
 
 module _ {b x cap T : ℕ} {table : Table} (can : CanFindStart b x cap T table) where
-  pub well-formed : AllWellFormed (streams-of table)
+  well-formed : AllWellFormed (streams-of table)
   well-formed = all-streams WellFormed (λ s. ×-prop le-prop le-prop) (records-of table) (λ r m. can .formed r m .0)
 
   due-after : DueAfter x (streams-of table)

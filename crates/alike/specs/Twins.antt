@@ -1,6 +1,5 @@
 -- Planners that hold the same, and lists of any calls with all that they give. Annex, chapter 12.
 use mathlib.Core.Path.{_≡_}
-use mathlib.Core.Logic.{_↔_}
 use mathlib.Core.List.{List, [], _∷_}
 use Prim.Native.Nat.{ℕ}
 use Rattle.planner.specs.Content.{content}
@@ -12,10 +11,10 @@ use Rattle.planner.specs.declared.Planner.{Planner}
 use Rattle.planner.specs.declared.Changed.{Changed}
 use Rattle.planner.specs.declared.Rounded.{Rounded}
 
--- Annex 12.23: two planners are twins if they hold the same, and both are sound or neither is. Their queues' links and unused places may differ.
-pub record AreTwins (p q : Planner) : Type 0 where
-  pub same : content p ≡ content q
-  pub sound : Sound p ↔ Sound q
+-- Annex 12.23: two planners are twins if both are sound and hold the same, or if neither is sound. Links of queues and unused places may differ.
+pub data AreTwins (p q : Planner) : Type 0 where
+  both-sound : Sound p → Sound q → content p ≡ content q → AreTwins p q
+  neither-sound : (Sound p → ⊥) → (Sound q → ⊥) → AreTwins p q
 
 -- Annex 12.24: a call as it is made, with any values and any buffer ..
 pub data Call : Type 0 where

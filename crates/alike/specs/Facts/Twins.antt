@@ -1,41 +1,52 @@
 -- Twins answer alike: every list of calls has the same outcomes on both.
 use mathlib.Core.Path.{_≡_, refl, sym, ap, subst, _∙_}
-use mathlib.Core.Logic.{_↔_}
 use mathlib.Core.List.{List, [], _∷_, _++_}
 use Prim.Native.Nat.{ℕ}
+use native.Mathlib.Nat.{lt-irrefl}
 use native.Mathlib.Decide.{ℕ-discrete}
+use native.Mathlib.Omega.{arith}
 use lib.ListN.{length, take, drop}
 use lib.Seq.{take-at}
 use Rattle.basics.specs.Refusals.{Refusal, answer-of}
+use Rattle.basics.specs.Facts.Refusals.{answer-first, answer-later}
 use Rattle.rules.specs.Facts.LazyStart.{lazy-unique}
 use Rattle.planner.specs.Content.{Content, content, cap-of, slots-of, streams-in}
 use Rattle.planner.specs.Sound.{Sound}
+use Rattle.planner.specs.Decide.{decide-sound}
 use Rattle.planner.specs.Open.{Setting, open-refusals, IsOpened}
 use Rattle.planner.specs.AddRemove.{Offer, unsound, offer-refusals, rule-refusals, added, removed, not-held, IsSoundWith, IsChange}
-use Rattle.planner.specs.Round.{ids-at, rounded, short-buffer, round-refusals, IsRound, IsHeldRound}
+use Rattle.planner.specs.Round.{ids-at, rounded, short-buffer, late-start, IsRound, IsHeldRound}
 use Rattle.planner.specs.Start.{IsStart, StartsLate}
 use Rattle.planner.specs.Facts.Calls.{refused-change, success-change, refused-round, success-round}
 use Rattle.planner.specs.declared.Planner.{Planner}
 use Rattle.planner.specs.declared.Changed.{Changed}
 use Rattle.planner.specs.declared.Rounded.{Rounded}
-use Rattle.alike.specs.Twins.{AreTwins, Call, Outcome, change, round, Gives, opens, adds, removes, rounds, Makes, none, then, SameOutcomes}
-use Rattle.alike.specs.Facts.Refusals.{AreAlike, alike-itself, same-answers}
-
--- 5 is answered by both or by neither
-unsound-alike : {p q : Planner} → AreTwins p q → (Sound p → ⊥) ↔ (Sound q → ⊥)
-unsound-alike twins = (λ bad sound. bad (twins .sound .1 sound), λ bad sound. bad (twins .sound .0 sound))
+use Rattle.alike.specs.Twins.{AreTwins, both-sound, neither-sound, Call, Outcome, change, round, Gives, opens, adds, removes, rounds, Makes, none, then, SameOutcomes}
+use Rattle.alike.specs.Facts.Refusals.{AreAlike, same-answers}
 
 -- Annex 12.23: equal planners are twins
 pub equal-are-twins : {p q : Planner} → p ≡ q → AreTwins p q
-equal-are-twins {p} e = subst (AreTwins p) e (record { same = refl; sound = (λ a. a, λ a. a) })
+equal-are-twins {p} e = subst (AreTwins p) e (itself (decide-sound p))
+  where
+    itself : Dec (Sound p) → AreTwins p p
+    itself (yes sound) = both-sound sound sound refl
+    itself (no bad) = neither-sound bad bad
 
 -- and either way round
 pub twins-back : {p q : Planner} → AreTwins p q → AreTwins q p
-twins-back twins = record { same = sym (twins .same); sound = (twins .sound .1, twins .sound .0) }
+twins-back (both-sound one other same) = both-sound other one (sym same)
+twins-back (neither-sound one other) = neither-sound other one
 
 -- sound planners that hold the same are twins
-pub sound-are-twins : {h k : Content} {p q : Planner} → h ≡ k → IsSoundWith h p → IsSoundWith k q → AreTwins p q
-sound-are-twins same one other = record { same = one .holds ∙ same ∙ sym (other .holds); sound = (λ _. other .sound, λ _. one .sound) }
+sound-are-twins : {h k : Content} {p q : Planner} → h ≡ k → IsSoundWith h p → IsSoundWith k q → AreTwins p q
+sound-are-twins same one other = both-sound (one .sound) (other .sound) (one .holds ∙ same ∙ sym (other .holds))
+
+-- what is refused with 5 first is answered alike by twins, if what comes behind 5 is answered alike where both are sound and hold the same
+twins-answer : {p q : Planner} → AreTwins p q → (rs ss : List Refusal)
+    → (Sound p → Sound q → content p ≡ content q → answer-of rs ≡ answer-of ss) → answer-of (unsound p ∷ rs) ≡ answer-of (unsound q ∷ ss)
+twins-answer {p} {q} (both-sound one other same) rs ss alike =
+    answer-later (unsound p) rs (λ bad. bad one) ∙ alike one other same ∙ sym (answer-later (unsound q) ss (λ bad. bad other))
+twins-answer {p} {q} (neither-sound one other) rs ss alike = answer-first (unsound p) rs one ∙ sym (answer-first (unsound q) ss other)
 
 -- two openings with the same setting hand back the same planner
 pub same-opening : {s : Setting} {r r′ : Changed} → IsOpened s r → IsOpened s r′ → (r .answer ≡ r′ .answer) × (r .planner ≡ r′ .planner)
@@ -63,66 +74,71 @@ module _ {p q : Planner} (twins : AreTwins p q) where
   module _ (rest : Content → List Refusal) (then-holds : Content → Content) {r s : Changed}
       (is : IsChange (unsound p ∷ rest (content p)) p (then-holds (content p)) r) (is′ : IsChange (unsound q ∷ rest (content q)) q (then-holds (content q)) s)
     where
+      -- has the same answer ..
       pub change-answers : r .answer ≡ s .answer
-      unfolding AreAlike
       change-answers =
-          is .answer
-          ∙ same-answers (unsound p ∷ rest (content p)) (unsound q ∷ rest (content p)) (refl, (unsound-alike twins, alike-itself (rest (content p))))
-          ∙ ap (λ (h : Content). answer-of (unsound q ∷ rest h)) (twins .same)
-          ∙ sym (is′ .answer)
+          let alike = λ (_ : Sound p) (_ : Sound q) (same : content p ≡ content q). ap (λ (h : Content). answer-of (rest h)) same in
+          is .answer ∙ twins-answer twins (rest (content p)) (rest (content q)) alike ∙ sym (is′ .answer)
 
+      -- .. and leaves twins
       pub change-twins : AreTwins (r .planner) (s .planner)
-      change-twins = go (ℕ-discrete (r .answer) 0)
+      change-twins = go (ℕ-discrete (r .answer) 0) twins
         where
-          go : Dec (r .answer ≡ 0) → AreTwins (r .planner) (s .planner)
-          go (yes zero) = sound-are-twins (ap then-holds (twins .same)) (success-change is zero) (success-change is′ (sym change-answers ∙ zero))
-          go (no some) = still-twins (refused-change is some) (refused-change is′ (λ zero. some (change-answers ∙ zero)))
+          go : Dec (r .answer ≡ 0) → AreTwins p q → AreTwins (r .planner) (s .planner)
+          go (yes zero) (both-sound _ _ same) =
+              sound-are-twins (ap then-holds same) (success-change is zero) (success-change is′ (sym change-answers ∙ zero))
+          go (yes zero) (neither-sound bad _) = absurd (lt-irrefl 0 (omega (arith, zero, is .answer, answer-first (unsound p) (rest (content p)) bad)))
+          go (no some) _ = still-twins (refused-change is some) (refused-change is′ (λ zero. some (change-answers ∙ zero)))
 
   module _ {before before′ after after′ : List ℕ} {r s : Rounded}
       (long : length before ≡ length before′) (is : IsRound p before after r) (is′ : IsRound q before′ after′ s)
     where
-      late-alike : StartsLate p ↔ StartsLate q
-      late-alike = (
-        λ late sound x start. late (twins .sound .1 sound) x (subst (λ (h : Content). IsStart h x) (sym (twins .same)) start),
-        λ late sound x start. late (twins .sound .0 sound) x (subst (λ (h : Content). IsStart h x) (twins .same) start),
-      )
+      -- behind 5, where both are sound and hold the same, 16 and 17 apply alike
+      asked-alike : Sound p → Sound q → content p ≡ content q
+          → AreAlike (short-buffer (content p) before ∷ late-start p ∷ []) (short-buffer (content q) before′ ∷ late-start q ∷ [])
+      unfolding AreAlike
+      asked-alike one other same = (refl, ((λ short. rw (← long, ← same) short, λ short. rw (long, same) short), (refl, ((to, back), tt))))
+        where
+          to : StartsLate p → StartsLate q
+          to late _ x start = late one x (subst (λ (h : Content). IsStart h x) (sym same) start)
 
-      short-alike : (short-buffer (content p) before .Applies) ↔ (short-buffer (content q) before′ .Applies)
-      short-alike = (λ short. rw (← long, ← (twins .same)) short, λ short. rw (long, twins .same) short)
+          back : StartsLate q → StartsLate p
+          back late _ x start = late other x (subst (λ (h : Content). IsStart h x) same start)
 
       round-answers : r .answer ≡ s .answer
-      unfolding AreAlike
       round-answers =
-          is .answer
-          ∙ same-answers (round-refusals p before) (round-refusals q before′) (refl, (unsound-alike twins, (refl, (short-alike, (refl, (late-alike, tt))))))
-          ∙ sym (is′ .answer)
+          let rs = short-buffer (content p) before ∷ late-start p ∷ [] in
+          let ss = short-buffer (content q) before′ ∷ late-start q ∷ [] in
+          is .answer ∙ twins-answer twins rs ss (λ one other same. same-answers rs ss (asked-alike one other same)) ∙ sym (is′ .answer)
 
       -- twins hold the same round, whatever stands in buffers of the same length
       pub same-round : IsSameRound before before′ after after′ r s
-      same-round = go (ℕ-discrete (r .answer) 0)
+      same-round = go (ℕ-discrete (r .answer) 0) twins
         where
           first-n : {o : Planner} {old new : List ℕ} {x : Rounded} → IsHeldRound o old new x → take (x .n) new ≡ ids-at (content o) (x .start)
           first-n {o} {old} {x = x} held =
               ap (take (x .n)) (held .buffer) ∙ take-at (ids-at (content o) (x .start)) (drop (x .n) old) (x .n) (sym (held .n))
 
-          go : Dec (r .answer ≡ 0) → IsSameRound before before′ after after′ r s
-          go (yes zero) =
+          go : Dec (r .answer ≡ 0) → AreTwins p q → IsSameRound before before′ after after′ r s
+          go (yes zero) (both-sound _ _ same) =
               let held = success-round is zero in
               let held′ = success-round is′ (sym round-answers ∙ zero) in
               let h = content q in
               let start : r .start ≡ s .start = lazy-unique (slots-of h) (cap-of h) (streams-in h) (r .start) (s .start)
-              (subst (λ (c : Content). IsStart c (r .start)) (twins .same) (held .start)) (held′ .start) in
-              let ids : ids-at (content p) (r .start) ≡ ids-at (content q) (s .start) = λ i. ids-at (twins .same i) (start i) in
+              (subst (λ (c : Content). IsStart c (r .start)) same (held .start)) (held′ .start) in
+              let ids : ids-at (content p) (r .start) ≡ ids-at (content q) (s .start) = λ i. ids-at (same i) (start i) in
               let n : r .n ≡ s .n = held .n ∙ ap (length {A = ℕ}) ids ∙ sym (held′ .n) in
               record {
                 answer = round-answers;
                 start = start;
                 n = n;
                 ids = first-n held ∙ ids ∙ sym (first-n held′);
-                buffer = λ same. held .buffer ∙ (λ i. ids i ++ drop (n i) (same i)) ∙ sym (held′ .buffer);
-                twins-after = sound-are-twins (λ i. rounded (twins .same i) (start i)) (held .planner) (held′ .planner);
+                buffer = λ equal. held .buffer ∙ (λ i. ids i ++ drop (n i) (equal i)) ∙ sym (held′ .buffer);
+                twins-after = sound-are-twins (λ i. rounded (same i) (start i)) (held .planner) (held′ .planner);
               }
-          go (no some) =
+          go (yes zero) (neither-sound bad _) =
+              absurd (lt-irrefl 0 (omega (arith, zero, is .answer, answer-first (unsound p) (short-buffer (content p) before ∷ late-start p ∷ []) bad)))
+          go (no some) _ =
               let refused = refused-round is some in
               let refused′ = refused-round is′ (λ zero. some (round-answers ∙ zero)) in
               record {
@@ -130,7 +146,7 @@ module _ {p q : Planner} (twins : AreTwins p q) where
                 start = refused .start ∙ sym (refused′ .start);
                 n = refused .n ∙ sym (refused′ .n);
                 ids = ap (λ (k : ℕ). take k after) (refused .n) ∙ ap (λ (k : ℕ). take k after′) (sym (refused′ .n));
-                buffer = λ same. refused .buffer ∙ same ∙ sym (refused′ .buffer);
+                buffer = λ equal. refused .buffer ∙ equal ∙ sym (refused′ .buffer);
                 twins-after = still-twins (refused .planner) (refused′ .planner);
               }
 

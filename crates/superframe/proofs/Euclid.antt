@@ -25,6 +25,7 @@ gcd-step a b g d =
       greatest = λ k n left right. d .greatest k n right (scaled-remainder k n a b left right);
     }
 
+-- where m is at least 1, its greatest common divisor with any p is at least 1
 pub gcd-positive : (m p g : ℕ) → 1 ≤ m → IsGcd m p g → 1 ≤ g
 gcd-positive m p g positive d = pos-of-dvd-of-pos (d .divides-left) positive
 

@@ -16,6 +16,7 @@ pub record Folded (xs : List ℕ) (m : ℕ) : Type 0 where
   pub common : (p : ℕ) → List·Mem p xs → p ∣ m
   pub divides : (n : ℕ) → ((p : ℕ) → List·Mem p xs → p ∣ n) → m ∣ n
 
+-- with no period taken yet the common multiple is 1
 pub folded-none : Folded [] 1
 folded-none =
     record { positive = omega arith; bounded = omega arith; common = λ p m. absurd (not-mem-nil m); divides = λ n all. one-dvd n }

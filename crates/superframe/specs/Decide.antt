@@ -9,6 +9,7 @@ use native.Mathlib.Omega.{arith}
 use Rattle.superframe.specs.Facts.Least.{least-exists}
 use Rattle.superframe.specs.Periods.{AllInRange, IsCommonMultiple, IsLcm}
 
+-- whether every period of a list is 1 to 240 can be decided
 pub decide-in-range : (periods : List ℕ) → Dec (AllInRange periods)
 decide-in-range = decidableBAll (λ p. Dec·and (decLe 1 p) (decLe p 240))
 

@@ -19,18 +19,21 @@ pub then-zero : (a : ℕ) {R : Type 0} → R → Then 0 a R
 then-zero zero rest = inr (refl, rest)
 then-zero (suc a) rest = inl (omega arith)
 
+-- nothing is in order both ways round, if the rest is not
 pub then-asym : {a b : ℕ} {R S : Type 0} → (R → S → ⊥) → Then a b R → Then b a S → ⊥
 then-asym rest (inl l) (inl m) = omega arith
 then-asym rest (inl l) (inr m) = omega (arith, m .0)
 then-asym rest (inr l) (inl m) = omega (arith, l .0)
 then-asym rest (inr l) (inr m) = rest (l .1) (m .1)
 
+-- one that is in order with a second, and the second with a third, is in order with the third, if so are the rests
 pub then-trans : {a b c : ℕ} {R S T : Type 0} → (R → S → T) → Then a b R → Then b c S → Then a c T
 then-trans rest (inl l) (inl m) = inl (omega arith)
 then-trans rest (inl l) (inr m) = inl (omega (arith, m .0))
 then-trans rest (inr l) (inl m) = inl (omega (arith, l .0))
 then-trans rest (inr l) (inr m) = inr (l .0 ∙ m .0, rest (l .1) (m .1))
 
+-- an order by a number and the rest holds in one way only, if the rest does
 pub then-prop : {a b : ℕ} {R : Type 0} → IsProp R → IsProp (Then a b R)
 then-prop prop (inl l) (inl m) = ap inl (le-prop l m)
 then-prop {a} prop (inl l) (inr m) = absurd (lt-irrefl a (omega (arith, m .0)))

@@ -14,9 +14,11 @@ pub record HaveId (ids : ℕ → ℕ) (id j n : ℕ) : Type 0 where
   pub none : n ≡ 0 → Below j (λ k. ids k ≡ id → ⊥)
   pub some : Below j (λ k. ids k ≡ id → ⊥) → n ≡ 0
 
+-- before the first place none has the id, and the count is 0 ..
 pub none-have : (ids : ℕ → ℕ) (id : ℕ) → HaveId ids id 0 0
 none-have ids id = record { few = omega arith; none = λ _. below-none _; some = λ _. refl }
 
+-- .. and a place more adds 1 to the count if it has the id, and 0 if not
 pub one-more-place : (ids : ℕ → ℕ) (id j n r : ℕ) → HaveId ids id j n → IsSame (ids j) id r → HaveId ids id (j + 1) (n + r)
 one-more-place ids id j n r before is = go (ℕ-discrete (ids j) id)
   where

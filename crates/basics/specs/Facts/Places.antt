@@ -32,6 +32,7 @@ halved (twice {h} below) more =
     let e : (h + h) / 2 ≡ h = omega arith in
     (subst⁻¹ Half e below, omega arith, omega (arith, half-some below))
 
+-- before the first halving the place is one of all 64, whatever the numbers are
 pub among-all : (vs : List ℕ) (x : ℕ) → IsAmong vs x 0 64
 among-all vs x =
     record {

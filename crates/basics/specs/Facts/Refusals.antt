@@ -13,6 +13,7 @@ pub answer-first : (r : Refusal) (rs : List Refusal) → r .Applies → answer-o
 unfolding answer-of
 answer-first r rs applies = if-pos (r .decided) applies (r .number) (answer-of rs)
 
+-- where the first refusal does not apply, those after it give the answer
 pub answer-later : (r : Refusal) (rs : List Refusal) → (r .Applies → ⊥) → answer-of (r ∷ rs) ≡ answer-of rs
 unfolding answer-of
 answer-later r rs passes = if-neg (r .decided) passes (r .number) (answer-of rs)

@@ -17,6 +17,7 @@ module _ {A : Type 0} (set : IsSet A) (R : A → A → Type 0) (asymmetric : (a 
       Or·elim List·Mem-prop (eq-or-mem-of-mem-cons (inside a (mem-cons-of-mem x m)))
       (λ e. let self = subst (λ (z : A). R x z) e (pairwise-cons .0 sx .0 a m) in absurd (asymmetric x x self self)) (λ there. there)
 
+  -- two lists in the same order, which never holds both ways round, with the same elements are equal
   pub sorted-unique : (xs ys : List A) → Pairwise R xs → Pairwise R ys
       → ((a : A) → List·Mem a xs → List·Mem a ys) → ((a : A) → List·Mem a ys → List·Mem a xs) → xs ≡ ys
   sorted-unique [] [] sx sy there back = refl

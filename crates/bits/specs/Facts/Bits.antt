@@ -46,6 +46,7 @@ digit-power-other (suc n) (suc k) other =
 one-shifted : (n : ℕ) → n < 64 → (1 * 2 ^ n) % 2 ^ 64 ≡ 2 ^ n
 one-shifted n below = shl-exact {a = 1} 1 n 64 (omega arith) (omega arith) ∙ one-mul (2 ^ n)
 
+-- a set joined with 1 shifted by n, for n below 64, has n in it, and every other digit as it was
 pub joined-is-with : (set n : ℕ) → n < 64 → IsWith set n (bitOr set ((1 * 2 ^ n) % 2 ^ 64))
 joined-is-with set n below =
     subst⁻¹ (λ (p : ℕ). IsWith set n (bitOr set p)) (one-shifted n below)

@@ -14,11 +14,13 @@ unfolding ids-in id-bytes
 ids-kept [] = refl
 ids-kept (id ∷ ids) = let here : id / 256 * 256 + id % 256 ≡ id = omega arith in λ i. here i ∷ ids-kept ids i
 
+-- n ids take 2×n bytes
 pub length-id-bytes : (ids : List ℕ) → length (id-bytes ids) ≡ 2 * length ids
 unfolding id-bytes
 length-id-bytes [] = refl
 length-id-bytes (id ∷ ids) = let rest = length-id-bytes ids in omega (arith, rest)
 
+-- the packet of n ids has 6 + 2×n bytes
 pub length-bytes : (v : Values) → length (bytes-of v) ≡ 6 + 2 * length (v .ids)
 length-bytes v = omega (arith, length-id-bytes (v .ids))
 
@@ -49,6 +51,7 @@ pairs-kept (suc n) (a ∷ b ∷ rest) small even =
     let fewer : length rest ≡ 2 * n = omega (arith, even) in
     λ i. first i ∷ second i ∷ pairs-kept n rest (λ k. small (suc (suc k))) fewer i
 
+-- in 2×n bytes there are n ids
 pub length-ids-in : (n : ℕ) (p : List ℕ) → length p ≡ 2 * n → length (ids-in p) ≡ n
 unfolding ids-in
 length-ids-in n [] even = omega (arith, even)

@@ -48,6 +48,7 @@ pub record AreStored (part ids : List ℕ) (k : ℕ) (after : List ℕ) : Type 0
   pub stored : after ≡ id-bytes (take k ids) ++ drop (2 * k) part
 
 module _ (part ids : List ℕ) (room : 2 * length ids ≤ length part) where
+  -- with no id stored yet the bytes are as they were
   pub none-stored : AreStored part ids 0 part
   unfolding id-bytes
   none-stored = record { within = omega arith; stored = refl }
@@ -55,11 +56,13 @@ module _ (part ids : List ℕ) (room : 2 * length ids ≤ length part) where
   size-stored : (k : ℕ) → k ≤ length ids → length (id-bytes (take k ids)) ≡ 2 * k
   size-stored k within = length-id-bytes (take k ids) ∙ ap (λ (n : ℕ). 2 * n) (length-take-le k ids within)
 
+  -- with k ids stored there are as many bytes as before
   pub length-stored : (k : ℕ) (after : List ℕ) → AreStored part ids k after → length after ≡ length part
   length-stored k after is =
       let done = size-stored k (is .within) in
       ap (length {A = ℕ}) (is .stored) ∙ simp (length-append, length-drop) (omega (arith, done, is .within))
 
+  -- with the first k ids stored, the two bytes of the next one put at 2×k and 2×k + 1 make it k + 1
   pub one-more-stored : (k : ℕ) (after : List ℕ) → AreStored part ids k after → k < length ids
       → AreStored part ids (k + 1) (set (set after (2 * k) (getD ids k 0 / 256)) (2 * k + 1) (getD ids k 0 % 256))
   unfolding id-bytes
@@ -74,6 +77,7 @@ module _ (part ids : List ℕ) (room : 2 * length ids ≤ length part) where
             ∙ ap (λ (l : List ℕ). id-bytes l ++ drop (2 * (k + 1)) part) (sym longer);
       }
 
+  -- with all ids stored their bytes stand in front, and the later bytes are as they were
   pub all-stored : (k : ℕ) (after : List ℕ) → AreStored part ids k after → length ids ≤ k → after ≡ id-bytes ids ++ drop (2 * length ids) part
   all-stored k after is all =
       let e : k ≡ length ids = omega (arith, is .within) in
@@ -97,6 +101,7 @@ pub record AreTaken (part : List ℕ) (k : ℕ) (ids : List ℕ) : Type 0 where
   pub size : length ids ≡ 255
   pub taken : take k ids ≡ ids-in (take (2 * k) part)
 
+-- with the ids of the first k pairs in the first k places, that of the next pair put at place k, below 255, makes it k + 1
 pub one-more-pair : (part : List ℕ) (k : ℕ) (ids : List ℕ) (x : ℕ) → AreTaken part k ids → 2 * k + 1 < length part → k < 255
     → x ≡ getD part (2 * k) 0 * 256 + getD part (2 * k + 1) 0 → AreTaken part (k + 1) (set ids k x)
 one-more-pair part k ids x are inside few is =
@@ -109,6 +114,7 @@ one-more-pair part k ids x are inside few is =
           ∙ sym (pair-more k part inside);
     }
 
+-- with all n pairs of 2×n bytes taken, the first n places hold the ids in the bytes
 pub all-pairs : (part : List ℕ) (n k : ℕ) (ids : List ℕ) → AreTaken part k ids → length part ≡ 2 * n → k ≡ n → take n ids ≡ ids-in part
 all-pairs part n k ids are size all =
     subst (λ (m : ℕ). take m ids ≡ ids-in (take (2 * m) part)) all (are .taken) ∙ ap ids-in (take-all (2 * n) part (omega (arith, size)))

@@ -24,6 +24,7 @@ carries start slots ids = record { start = start; slots = slots; ids = ids }
 abbrev first-packet : List ℕ
 first-packet = 0 ∷ 0 ∷ 0 ∷ 2 ∷ 2 ∷ 2 ∷ 0 ∷ 1 ∷ 0 ∷ 2 ∷ []
 
+-- start 2, B 2 and the ids 1 and 2 are the ten bytes 0 0 0 2, 2, 2, 0 1, 0 2
 pub first-bytes : bytes-of (carries 2 2 (1 ∷ 2 ∷ [])) ≡ first-packet
 unfolding id-bytes
 first-bytes = refl
@@ -33,6 +34,7 @@ pub last-bytes : bytes-of (carries 1_000_000_000 64 (32_767 ∷ 256 ∷ [])) ≡
 unfolding id-bytes
 last-bytes = refl
 
+-- start 20, B 1 and no ids are the six bytes 0 0 0 20, 1, 0
 pub empty-bytes : bytes-of (carries 20 1 []) ≡ 0 ∷ 0 ∷ 0 ∷ 20 ∷ 1 ∷ 0 ∷ []
 unfolding id-bytes
 empty-bytes = refl
@@ -60,6 +62,7 @@ wrong-length {p} wrong = record { given = sym (answers-26 p wrong) }
 bad-value : {p : List ℕ} → 6 ≤ length p → length p ≡ 6 + 2 * getD p 5 0 → (IsGood (values-in p) → ⊥) → Gives p 27
 bad-value {p} header long bad = record { given = sym (answers-27 p (header, long) bad) }
 
+-- a read of the first, start 2, B 2 and ids 1 and 2, answers 0
 pub first-is-read : Gives first-packet 0
 first-is-read = record { given = good-is-read first-packet (carries 2 2 (1 ∷ 2 ∷ []), sym first-bytes, first-good) }
 
@@ -67,6 +70,7 @@ first-is-read = record { given = good-is-read first-packet (carries 2 2 (1 ∷ 2
 pub five-bytes : Gives (0 ∷ 0 ∷ 0 ∷ 2 ∷ 2 ∷ []) 26
 five-bytes = wrong-length (λ long. lt-irrefl 0 (omega (arith, long .0)))
 
+-- seven bytes where n is 0, and six are right, get 26 and not 27, though B is 99
 pub seven-bytes : Gives (0 ∷ 0 ∷ 0 ∷ 2 ∷ 99 ∷ 0 ∷ 0 ∷ []) 26
 seven-bytes = wrong-length (λ long. lt-irrefl 0 (omega (arith, long .1)))
 
@@ -74,24 +78,30 @@ seven-bytes = wrong-length (λ long. lt-irrefl 0 (omega (arith, long .1)))
 pub late-start : Gives (59 ∷ 154 ∷ 202 ∷ 1 ∷ 1 ∷ 0 ∷ []) 27
 late-start = bad-value (omega arith) refl (λ good. lt-irrefl 0 (omega (arith, good .start)))
 
+-- start 2, B 0 and n 0 get 27: B is below 1
 pub no-slots : Gives (0 ∷ 0 ∷ 0 ∷ 2 ∷ 0 ∷ 0 ∷ []) 27
 no-slots = bad-value (omega arith) refl (λ good. lt-irrefl 0 (omega (arith, good .slots .0)))
 
+-- start 2, B 65 and n 0 get 27: B is above 64
 pub too-many-slots : Gives (0 ∷ 0 ∷ 0 ∷ 2 ∷ 65 ∷ 0 ∷ []) 27
 too-many-slots = bad-value (omega arith) refl (λ good. lt-irrefl 0 (omega (arith, good .slots .1)))
 
+-- B 1 and n 2 with the ids 1 and 2 get 27: n is above B
 pub more-than-slots : Gives (0 ∷ 0 ∷ 0 ∷ 2 ∷ 1 ∷ 2 ∷ 0 ∷ 1 ∷ 0 ∷ 2 ∷ []) 27
 unfolding ids-in
 more-than-slots = bad-value (omega arith) refl (λ good. lt-irrefl 0 (omega (arith, good .count)))
 
+-- B 1 with the one id 0 gets 27
 pub id-zero : Gives (0 ∷ 0 ∷ 0 ∷ 2 ∷ 1 ∷ 1 ∷ 0 ∷ 0 ∷ []) 27
 unfolding ids-in
 id-zero = bad-value (omega arith) refl (λ good. lt-irrefl 0 (omega (arith, good .ids .range 0 mem-cons-self .0)))
 
+-- B 1 with the one id 32,768, bytes 128 and 0, gets 27
 pub id-32768 : Gives (0 ∷ 0 ∷ 0 ∷ 2 ∷ 1 ∷ 1 ∷ 128 ∷ 0 ∷ []) 27
 unfolding ids-in
 id-32768 = bad-value (omega arith) refl (λ good. lt-irrefl 0 (omega (arith, good .ids .range 32_768 mem-cons-self .1)))
 
+-- B 3 with the ids 1, 2 and 1 gets 27: 1 stands twice
 pub id-twice : Gives (0 ∷ 0 ∷ 0 ∷ 2 ∷ 3 ∷ 3 ∷ 0 ∷ 1 ∷ 0 ∷ 2 ∷ 0 ∷ 1 ∷ []) 27
 unfolding ids-in
 id-twice = bad-value (omega arith) refl (λ good. nodup-cons .0 (good .ids .once) .0 (mem-cons-of-mem 2 mem-cons-self))
@@ -100,8 +110,10 @@ id-twice = bad-value (omega arith) refl (λ good. nodup-cons .0 (good .ids .once
 pub slots-261 : (buffer : List ℕ) → answer-of (write-refusals (carries 2 261 []) buffer) ≡ 27
 slots-261 buffer = sym (refuses-27 (carries 2 261 []) buffer (λ good. lt-irrefl 0 (omega (arith, good .slots .1))) .answers)
 
+-- B 1 and the id 0 need eight bytes: with a buffer of none both refusals apply, and 27 is given
 pub bad-id-no-buffer : answer-of (write-refusals (carries 2 1 (0 ∷ [])) []) ≡ 27
 bad-id-no-buffer = sym (refuses-27 (carries 2 1 (0 ∷ [])) [] (λ good. lt-irrefl 0 (omega (arith, good .ids .range 0 mem-cons-self .0))) .answers)
 
+-- start 2, B 2 and the ids 1 and 2 are ten bytes: a buffer of nine gets 28
 pub nine-bytes-of-ten : answer-of (write-refusals (carries 2 2 (1 ∷ 2 ∷ [])) (0 ∷ 0 ∷ 0 ∷ 0 ∷ 0 ∷ 0 ∷ 0 ∷ 0 ∷ 0 ∷ [])) ≡ 28
 nine-bytes-of-ten = sym (refuses-28 (carries 2 2 (1 ∷ 2 ∷ [])) (0 ∷ 0 ∷ 0 ∷ 0 ∷ 0 ∷ 0 ∷ 0 ∷ 0 ∷ 0 ∷ []) first-good (omega arith) .answers)

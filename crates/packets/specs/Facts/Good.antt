@@ -18,6 +18,7 @@ decide-ids ids =
     map-dec (λ w. record { range = w .0; once = w .1 }) (λ r. (r .range, r .once))
     (Dec·and (decidableBAll (decide-within 32_767) ids) (nodupDecidable ℕ-discrete ids))
 
+-- whether values are good can be decided
 pub decide-good : (v : Values) → Dec (IsGood v)
 decide-good v =
     map-dec (λ w. record { start = w .0; slots = w .1 .0; count = w .1 .1 .0; ids = w .1 .1 .1 }) (λ r. (r .start, (r .slots, (r .count, r .ids))))
@@ -29,9 +30,11 @@ decide-good v =
 pub values-are-in : {p : List ℕ} (v : Values) → p ≡ bytes-of v → v ≡ values-in p
 values-are-in {p} v same = sym (values-kept v) ∙ ap values-in (sym same)
 
+-- the values in the bytes of a good packet are good
 pub good-in : {p : List ℕ} → IsGoodPacket p → IsGood (values-in p)
 good-in (v, same, good) = subst IsGood (values-are-in v same) good
 
+-- whether a list of numbers is the bytes of a good packet can be decided
 pub decide-packet : (p : List ℕ) → Dec (IsGoodPacket p)
 decide-packet p =
     map-dec (λ w. (values-in p, w .0, w .1)) (λ is. (is .1 ∙ ap bytes-of (values-are-in (is .0) (is .1)), good-in is))

@@ -18,9 +18,11 @@ use Rattle.bits.specs.Facts.Words.{zeros, length-zeros}
 use Rattle.packets.specs.Good.{IdsGood}
 use Rattle.packets.specs.Met.{IsMet}
 
+-- the empty list of ids is good
 pub none-good : IdsGood []
 none-good = record { range = λ id m. absurd (not-mem-nil m); once = nodup-nil }
 
+-- before the first id the set is 16 words of zeros
 pub none-met : IsMet [] (zeros 16)
 none-met = record { size = length-zeros 16; good = none-good; all = λ x m. absurd (not-mem-nil m) }
 
@@ -50,6 +52,7 @@ one-more-good ids x good range new =
 next-taken : (ids : List ℕ) (i : ℕ) → i < length ids → take (i + 1) ids ≡ take i ids ++ (getD ids i 0 ∷ [])
 next-taken ids i inside = rw add-one (take-suc ids i 0 inside)
 
+-- one id more is met where it is in range, stands at no earlier place, and the set gets its remainder by 1,024
 pub one-more-met : (ids : List ℕ) (i : ℕ) {words after : List ℕ} → i < length ids → IsMet (take i ids) words → (1 ≤ getD ids i 0) × (getD ids i 0 ≤ 32_767)
     → (List·Mem (getD ids i 0) (take i ids) → ⊥) → IsWordsWith words (getD ids i 0 % 1024) after → IsMet (take (i + 1) ids) after
 one-more-met ids i {words} {after} inside met range new put =
@@ -88,5 +91,6 @@ passed-over ids j x inside decided other as-before =
     (same-as (λ m. subst⁻¹ (List·Mem x) (next-taken ids j inside) (mem-append-left (getD ids j 0 ∷ []) m))
     (λ m. earlier (take j ids) (getD ids j 0) x (λ same. other (sym same)) (subst (List·Mem x) (next-taken ids j inside) m)) decided)
 
+-- once j has come to place i, what was found tells whether x stands before place i
 pub all-looked-at : (ids : List ℕ) (i j x : ℕ) {found : Bool} → j ≡ i → Decides found (List·Mem x (take j ids)) → Decides found (List·Mem x (take i ids))
 all-looked-at ids i j x {found} all = subst (λ (k : ℕ). Decides found (List·Mem x (take k ids))) all

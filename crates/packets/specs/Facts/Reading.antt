@@ -35,13 +35,16 @@ values-read p start slots ids =
     λ i. record { start = start i; slots = slots i; ids = all i }
 
 module _ (p : List ℕ) where
+  -- a reader answers 26 where the length is wrong ..
   pub answers-26 : (HasLength p → ⊥) → 26 ≡ answer-of (read-refusals p)
   answers-26 wrong = sym (answer-first (wrong-length p) (bad-value p ∷ []) wrong)
 
+  -- .. 27 where the length is right and the values in the bytes are not good ..
   pub answers-27 : HasLength p → (IsGood (values-in p) → ⊥) → 27 ≡ answer-of (read-refusals p)
   answers-27 long bad =
       sym (answer-later (wrong-length p) (bad-value p ∷ []) (λ wrong. wrong long) ∙ answer-first (bad-value p) [] (λ is. bad (good-in is)))
 
+  -- .. and 0 for the bytes of good values
   pub good-is-read : IsGoodPacket p → answer-of (read-refusals p) ≡ 0
   unfolding answer-of
   good-is-read is =
@@ -49,6 +52,7 @@ module _ (p : List ℕ) where
       let long : HasLength p = subst⁻¹ HasLength (is .1) (omega arith, length-bytes v) in
       answer-later (wrong-length p) (bad-value p ∷ []) (λ wrong. wrong long) ∙ answer-later (bad-value p) [] (λ bad. bad is)
 
+  -- bytes of the right length with good values in them are answered 0
   pub answers-0 : AreBytes p → HasLength p → IsGood (values-in p) → 0 ≡ answer-of (read-refusals p)
   answers-0 small long good = sym (good-is-read (values-in p, sym (bytes-kept p small (long .1)), good))
 
@@ -65,12 +69,15 @@ module _ (p : List ℕ) where
       go (yes is) = is
       go (no not) = absurd (passes not)
 
+  -- bytes that are not refused are six or more, so that start, B and n are there to be read
   pub read-has-header : answer-of (read-refusals p) ≡ 0 → 6 ≤ length p
   read-has-header zero = let is = read-is-good zero in subst⁻¹ (λ (l : List ℕ). 6 ≤ length l) (is .1) (omega arith)
 
+  -- the number of the refusal, with zeros for start, B and n, is what a refused read has to give
   pub read-refused : {answer : ℕ} → answer ≡ answer-of (read-refusals p) → (answer ≡ 0 → ⊥) → IsRead p (refused-read answer)
   read-refused same some = record { read = λ zero. absurd (some (same ∙ zero)); refused = λ _. ap refused-read same }
 
+  -- what a read has to give of bytes that are not refused: 0, the start in bytes 0 to 3, byte 4 as B and byte 5 as n
   pub read-given : {start slots n : ℕ} → answer-of (read-refusals p) ≡ 0 → start ≡ start-in p → slots ≡ getD p 4 0 → n ≡ getD p 5 0
       → IsRead p (record { answer = 0; start = start; slots = slots; n = n })
   read-given {start} {slots} {n} zero is-start is-slots is-n =
@@ -81,13 +88,16 @@ module _ (p : List ℕ) where
       let c : n ≡ length (v .ids) = is-n ∙ ap (λ (l : List ℕ). getD l 5 0) (is .1) in
       record { read = λ _. (v, is .1, is .2, λ i. record { answer = 0; start = a i; slots = b i; n = c i }); refused = λ some. absurd (some zero) }
 
+  -- of bytes that are refused the part of the ids is empty ..
   pub no-part : (answer-of (read-refusals p) ≡ 0 → ⊥) → [] ≡ ids-part p
   unfolding ids-part
   no-part some = sym (if-neg (ℕ-discrete (answer-of (read-refusals p)) 0) some (drop 6 p) [])
 
+  -- .. and of others it is all bytes from byte 6 on
   pub whole-part : answer-of (read-refusals p) ≡ 0 → drop 6 p ≡ ids-part p
   unfolding ids-part
   whole-part zero = sym (if-pos (ℕ-discrete (answer-of (read-refusals p)) 0) zero (drop 6 p) [])
 
+  -- of bytes that are not refused, the slice that begins at byte 6 and is 6 shorter than the packet is the part of the ids
   pub rest-is-part : answer-of (read-refusals p) ≡ 0 → take (length p - 6) (drop 6 p) ≡ ids-part p
   rest-is-part zero = rest-taken p ∙ whole-part zero

@@ -20,20 +20,24 @@ module _ (v : Values) (before : List ℕ) where
   left-as-it-was : (answer : ℕ) → answer ≡ answer-of (write-refusals v before) → (answer ≡ 0 → ⊥) → IsWritten v before before answer
   left-as-it-was answer same some = record { answers = same; written = λ zero. absurd (some (same ∙ zero)); refused = λ _. refl }
 
+  -- a write of values that are not good keeps its promise with answer 27 and the buffer as it was
   pub refuses-27 : (IsGood v → ⊥) → IsWritten v before before 27
   refuses-27 bad = left-as-it-was 27 (sym (answer-first (bad-values v) (short-buffer v before ∷ []) bad)) (λ e. lt-irrefl 0 (omega (arith, e)))
 
+  -- a write of good values into fewer than 6 + 2×n bytes keeps its promise with answer 28 and the buffer as it was
   pub refuses-28 : IsGood v → length before < 6 + 2 * length (v .ids) → IsWritten v before before 28
   refuses-28 good short =
       let passes = answer-later (bad-values v) (short-buffer v before ∷ []) (λ bad. bad good) in
       let refused = answer-first (short-buffer v before) [] (omega (arith, length-bytes v)) in
       left-as-it-was 28 (sym (passes ∙ refused)) (λ e. lt-irrefl 0 (omega (arith, e)))
 
+  -- a write of good values into a buffer no shorter than the packet is not refused
   pub good-is-written : IsGood v → length (bytes-of v) ≤ length before → answer-of (write-refusals v before) ≡ 0
   unfolding answer-of
   good-is-written good room =
       answer-later (bad-values v) (short-buffer v before ∷ []) (λ bad. bad good) ∙ answer-later (short-buffer v before) [] (λ short. lt-irrefl 0 (omega arith))
 
+  -- values whose write is not refused are good
   pub written-is-good : answer-of (write-refusals v before) ≡ 0 → IsGood v
   written-is-good zero = go (decide-good v)
     where
@@ -41,6 +45,7 @@ module _ (v : Values) (before : List ℕ) where
       go (yes good) = good
       go (no bad) = absurd (answer-zero (bad-values v) (short-buffer v before ∷ []) (λ e. lt-irrefl 0 (omega (arith, e))) zero .0 bad)
 
+  -- a write of good values into 6 + 2×n bytes or more keeps its promise with answer 0, the packet in front and the later bytes as they were
   pub writes : (after : List ℕ) → IsGood v → 6 + 2 * length (v .ids) ≤ length before → after ≡ bytes-of v ++ drop (length (bytes-of v)) before
       → IsWritten v before after 0
   writes after good room is =

@@ -35,6 +35,7 @@ unfolding most-in
 most-in-at-zero [] T = refl
 most-in-at-zero (s ∷ ss) T = rw (most-in-at-zero ss T)
 
+-- of well-formed streams, T units more add at most W(T), the sum of ⌈T/P⌉, to the demand
 pub demand-window : (ss : List Stream) → AllWellFormed ss → (t T : ℕ) → demand ss (t + T) ≤ demand ss t + most-in ss T
 demand-window ss all t T =
     rw (demand-at-zero ss (t + T), demand-at-zero ss t, most-in-at-zero ss T) at (future-window (map at-zero ss) (at-zero-well-formed ss all) t T)
@@ -48,6 +49,7 @@ module _ (b T : ℕ) (ss : List Stream) (all : AllWellFormed ss) (busy : IsBusy 
       (settled (demand ss) b T 0 1 (busy .0) (omega arith) (λ u after. omega (arith, demand-window ss all u T, busy .1))
       (λ u on close. let e : u - 0 ≡ u = omega arith in rw e (near u on (omega arith))) t some)
 
+  -- with a busy length T, T units more add at most b × T to h(t)
   pub busy-growth : (t : ℕ) → future ss (t + T) ≤ future ss t + b * T
   busy-growth t = omega (arith, future-window ss all t T, busy .1)
 

@@ -25,11 +25,13 @@ count-by-none first [] t late = refl
 count-by-none first (s ∷ ss) t late =
     omega (arith, packets-none (s .period) (first-of late .0) (first s) t (first-of late .1), count-by-none first ss t (rest-of late))
 
+-- the demand of t is the count with every stream's first packet due at its D
 pub count-by-demand : (ss : List Stream) (t : ℕ) → count-by (λ (s : Stream). s .deadline) ss t ≡ demand ss t
 unfolding count-by demand
 count-by-demand [] t = refl
 count-by-demand (s ∷ ss) t = rw (count-by-demand ss t)
 
+-- h(t) is the count with every stream's first packet due at its due time
 pub count-by-future : (ss : List Stream) (t : ℕ) → count-by due ss t ≡ future ss t
 unfolding count-by future
 count-by-future [] t = refl

@@ -7,6 +7,7 @@ use native.Mathlib.Decide.{decLe}
 use native.Mathlib.Omega.{arith}
 use Rattle.rules.specs.Demand.{packets-by, ceil}
 
+-- of two numbers the larger has no smaller quotient by a p of at least 1
 pub div-mono : (p : ℕ) {x y : ℕ} → 1 ≤ p → x ≤ y → x / p ≤ y / p
 div-mono p {x} {y} positive le = le-div-iff-mul-le positive .1 (le-trans (div-mul-le-self x p) le)
 
@@ -19,14 +20,17 @@ ceil-least n b k positive le =
 pub ceil-enough : (n b : ℕ) → 1 ≤ b → n ≤ b * ceil n b
 ceil-enough n b positive = omega (arith, lt-div-mul-add {a = n + (b - 1)} positive)
 
+-- what is above 0 needs at least one part of b
 pub ceil-positive : (n b : ℕ) → 1 ≤ b → 0 < n → 1 ≤ ceil n b
 ceil-positive n b positive some = le-div-iff-mul-le positive .1 (omega arith)
 
+-- where the first packet is due by t, at d, floor((t - d) / p) + 1 are due by t
 pub packets-some : (p d t : ℕ) → d ≤ t → packets-by p d t ≡ (t - d) / p + 1
 unfolding packets-by
 packets-some p d t early = if-pos (decLe d t) early ((t - d) / p + 1) 0
 
 module _ (p : ℕ) (positive : 1 ≤ p) where
+  -- where the first packet is due after t, none is due by t
   pub packets-none : (d t : ℕ) → t < d → packets-by p d t ≡ 0
   unfolding packets-by
   packets-none d t late = if-neg (decLe d t) (λ le. omega arith) ((t - d) / p + 1) 0
@@ -51,6 +55,7 @@ module _ (p : ℕ) (positive : 1 ≤ p) where
   pub packets-later : (d d′ x t : ℕ) → d′ + x ≤ d → packets-by p d t ≤ packets-by p d′ (t - x)
   packets-later d d′ x t later = rw (packets-quotient d t, packets-quotient d′ (t - x)) (div-mono p positive (omega arith))
 
+  -- by a later time no fewer packets are due
   pub packets-mono : (d t t′ : ℕ) → t ≤ t′ → packets-by p d t ≤ packets-by p d t′
   packets-mono d t t′ le = rw (packets-quotient d t, packets-quotient d t′) (div-mono p positive (omega arith))
 

@@ -101,6 +101,7 @@ in-due-list ss all t q of early =
     go s k in-time (x ∷ xs) all (List·Memᴰ·tail place) =
         mem-append-right (first-packets x (packets-by (x .period) (due x) t)) (go s k in-time xs (rest-of all) place)
 
+-- in the list of a table none of them stands twice
 pub nodup-due-list : (ss : List Stream) → IsTable ss → (t : ℕ) → List·Nodup (due-list ss t)
 unfolding due-list
 nodup-due-list ss table t = go ss (table .well-formed) (table .differ)

@@ -4,9 +4,11 @@ use mathlib.Core.HLevel.{hedberg}
 use native.Mathlib.Decide.{ℕ-discrete}
 use Rattle.rules.specs.Streams.{Stream, Packet}
 
+-- packets with the same number, release and due time are equal
 pub packet-path : (p q : Packet) → p .number ≡ q .number → p .release ≡ q .release → p .due ≡ q .due → p ≡ q
 packet-path p q a b c = λ i. record { number = a i; release = b i; due = c i }
 
+-- whether two packets are equal can be decided
 pub packet-discrete : Discrete Packet
 packet-discrete p q = go (ℕ-discrete (p .number) (q .number)) (ℕ-discrete (p .release) (q .release)) (ℕ-discrete (p .due) (q .due))
   where
@@ -27,5 +29,6 @@ stream-discrete p q =
     go (yes a) (yes b) (yes c) (no d) = no (λ e. d (ap (λ (x : Stream). x .release) e))
     go (yes a) (yes b) (yes c) (yes d) = yes (λ i. record { number = a i; period = b i; deadline = c i; release = d i })
 
+-- two streams are equal in one way only
 pub stream-set : IsSet Stream
 stream-set = hedberg stream-discrete

@@ -73,12 +73,14 @@ module _ (b now : ℕ) (ss : List Stream) (positive : 1 ≤ b) (ready : IsReady 
 -- Where the demand rule holds, the start rule fails exactly if no plan from now serves the table. Every unserved packet has to be due after
 -- now: with B = 2 and one stream of P = D = 1 due at now, h(t) = t - now + 1 ≤ 2 × (t - now) for all t > now, and no plan from now serves it.
 module _ (b now : ℕ) (ss : List Stream) (positive : 1 ≤ b) (table : IsTable ss) (rule : DemandRule b ss) (later : DueAfter now ss) where
+  -- of a table under the demand rule, all due after now, the start rule holds at now exactly if some plan from now serves it ..
   pub start-exact : StartRule b now ss ↔ Servable b now ss
   start-exact = (
     λ start-rule. ready-servable b now ss positive (record { table = table; demand-rule = rule; start-rule = start-rule; due-after = later }),
     λ servable t after. ∥∥₁-elim servable le-prop (λ w. served-start-rule b now (w .0) (w .1) ss table (w .2) t),
   )
 
+  -- .. and fails exactly if none does
   pub start-fails-exactly : (StartRule b now ss → ⊥) ↔ (Servable b now ss → ⊥)
   start-fails-exactly = (λ fails servable. fails (start-exact .1 servable), λ none start-rule. none (start-exact .0 start-rule))
 
@@ -97,6 +99,7 @@ module _ (ss : List Stream) (table : IsTable ss) where
 
   -- the demand rule fails exactly if no plan from 0 serves the table with every unserved packet released at 0
   module _ (b : ℕ) (positive : 1 ≤ b) where
+    -- the demand rule holds exactly if some plan from 0 serves the table with every unserved packet released at 0 ..
     pub demand-exact : DemandRule b ss ↔ Servable b 0 (map at-zero ss)
     demand-exact = (
       λ rule.
@@ -111,5 +114,6 @@ module _ (ss : List Stream) (table : IsTable ss) where
       λ servable. fits-demand-rule b ss (λ t. ∥∥₁-elim servable le-prop (λ w. served-start-rule b 0 (w .0) (w .1) (map at-zero ss) at-zero-is-table (w .2) t)),
     )
 
+    -- .. and fails exactly if none does
     pub demand-fails-exactly : (DemandRule b ss → ⊥) ↔ (Servable b 0 (map at-zero ss) → ⊥)
     demand-fails-exactly = (λ fails servable. fails (demand-exact .1 servable), λ none rule. none (demand-exact .0 rule))

@@ -60,6 +60,7 @@ pub three-rounds : map (line 2 6 2 three-streams) (0 ∷ 1 ∷ 2 ∷ [])
 unfolding three-streams line
 three-rounds = refl
 
+-- the starts 2, 5, 8 and so on, looked for with the busy length 2, are those of lazy rounds for ever
 pub three-rounds-lazy : ListsLazyRun 2 6 2 three-streams
 unfolding three-streams is-ready
 three-rounds-lazy = lazy-from 2 6 2 three-streams (omega arith) refl (omega arith)
@@ -69,6 +70,7 @@ pub first-fits : DemandRule 1 (stream 1 1 2 1 ∷ [])
 unfolding stream is-table is-busy keeps-demand
 first-fits = tested-demand 1 2 (stream 1 1 2 1 ∷ []) refl refl refl
 
+-- with stream 2 the demand rule is broken: the demand of the length 1 is 2, above 1 × 1
 pub second-breaks-demand : DemandRule 1 (stream 1 1 2 1 ∷ stream 2 2 2 1 ∷ []) → ⊥
 unfolding stream demand packets-by decLe
 second-breaks-demand rule = lt-irrefl 1 (rule 1 (omega arith))
@@ -78,6 +80,7 @@ unfoldable pub two-alike : State
 unfolding opened
 two-alike = opened 0 20 (stream 1 1 10 10 ∷ stream 2 1 10 10 ∷ [])
 
+-- two packets are due at 11, so the round starts at 9, and it sends 1: with due time and release equal the smaller id goes first
 pub two-alike-round : line 1 20 2 two-alike 0 ≡ record { start = 9; numbers = 1 ∷ [] }
 unfolding two-alike line
 two-alike-round = refl
@@ -92,6 +95,7 @@ pub third-keeps-demand : DemandRule 1 (one-sent ++ (stream 3 10 10 1 ∷ []))
 unfolding one-sent is-table is-busy keeps-demand
 third-keeps-demand = tested-demand 1 3 (one-sent ++ (stream 3 10 10 1 ∷ [])) refl refl refl
 
+-- at 10 the start rule is broken: streams 2 and 3 are both due at 11, and h(11) = 2 is above 1 × (11 - 10)
 pub third-breaks-start : StartRule 1 10 (one-sent ++ (stream 3 10 10 1 ∷ [])) → ⊥
 unfolding one-sent future packets-by decLe
 third-breaks-start rule = lt-irrefl 1 (rule 11 (omega arith))
@@ -112,6 +116,7 @@ pub by-release : map (line 1 20 3 due-together) (0 ∷ 1 ∷ 2 ∷ [])
 unfolding due-together line
 by-release = refl
 
+-- the starts 6, 7, 8 and so on, looked for with the busy length 3, are those of lazy rounds for ever
 pub by-release-lazy : ListsLazyRun 1 20 3 due-together
 unfolding due-together is-ready
 by-release-lazy = lazy-from 1 20 3 due-together (omega arith) refl (omega arith)
@@ -126,6 +131,7 @@ unfoldable pub three-alike : State
 unfolding opened
 three-alike = opened 0 20 (stream 9 1 12 8 ∷ stream 4 1 12 8 ∷ stream 7 1 12 8 ∷ [])
 
+-- with one slot each, rounds at 6, 7 and 8 send 4, 7 and 9, which stand in the table as 9, 4, 7
 pub by-number : map (line 1 20 3 three-alike) (0 ∷ 1 ∷ 2 ∷ [])
     ≡ record { start = 6; numbers = 4 ∷ [] } ∷ record { start = 7; numbers = 7 ∷ [] } ∷ record { start = 8; numbers = 9 ∷ [] } ∷ []
 unfolding three-alike line
@@ -136,10 +142,12 @@ unfoldable pub long-period : State
 unfolding opened
 long-period = opened 0 20 (stream 1 1 240 240 ∷ [])
 
+-- both starts are the cap: at 21 stream 1 rides, due only at 241, and at 42 its next packet is not released
 pub long-period-rounds : map (line 1 20 1 long-period) (0 ∷ 1 ∷ []) ≡ record { start = 21; numbers = 1 ∷ [] } ∷ record { start = 42; numbers = [] } ∷ []
 unfolding long-period line
 long-period-rounds = refl
 
+-- the starts 21, 42 and so on, looked for with the busy length 1, are those of lazy rounds for ever
 pub long-period-lazy : ListsLazyRun 1 20 1 long-period
 unfolding long-period is-ready
 long-period-lazy = lazy-from 1 20 1 long-period (omega arith) refl (omega arith)
@@ -149,11 +157,13 @@ unfoldable pub clock-end : State
 unfolding opened
 clock-end = opened 999_999_999 1 (stream 1 1_000_000_000 1 1 ∷ [])
 
+-- the rules know no clock: stream 1 rides at 1,000,000,000 and at 1,000,000,001, the start that gets 17
 pub clock-end-rounds : map (line 1 1 1 clock-end) (0 ∷ 1 ∷ [])
     ≡ record { start = 1_000_000_000; numbers = 1 ∷ [] } ∷ record { start = 1_000_000_001; numbers = 1 ∷ [] } ∷ []
 unfolding clock-end line
 clock-end-rounds = refl
 
+-- the starts 1,000,000,000, 1,000,000,001 and so on, looked for with the busy length 1, are those of lazy rounds for ever
 pub clock-end-lazy : ListsLazyRun 1 1 1 clock-end
 unfolding clock-end is-ready
 clock-end-lazy = lazy-from 1 1 1 clock-end (omega arith) refl (omega arith)
@@ -170,6 +180,7 @@ pub fifteen-fit : IsReady 5 1 (alike 9 1 8 4 3 ++ alike 6 10 1 25 2)
 unfolding alike is-ready
 fifteen-fit = tested-ready 5 1 3 (alike 9 1 8 4 3 ++ alike 6 10 1 25 2) refl
 
+-- with the sixteenth the demand rule is broken: the demand of the length 3 is 9 + 7 = 16, above 5 × 3
 pub sixteenth-breaks-demand : DemandRule 5 (alike 9 1 8 4 3 ++ alike 7 10 1 25 2) → ⊥
 unfolding alike demand packets-by decLe
 sixteenth-breaks-demand rule = lt-irrefl 15 (rule 3 (omega arith))

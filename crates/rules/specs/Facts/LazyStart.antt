@@ -93,6 +93,7 @@ module _ (f : ℕ → ℕ) (cap from : ℕ) where
       go (no gt) (inr w) = inr (w .0, omega (arith, w .1))
 
 module _ (b cap : ℕ) (ss : List Stream) where
+  -- where h(t) is above 0, the latest start that t allows is t - ceil(h(t) / b)
   pub latest-some : (t : ℕ) → 0 < future ss t → latest b cap ss t ≡ t - ceil (future ss t) b
   unfolding latest
   latest-some t some = if-pos (decLt 0 (future ss t)) some (t - ceil (future ss t) b) cap
@@ -160,6 +161,7 @@ first-due [] = 0
 first-due (s ∷ []) = due s
 first-due (s ∷ x ∷ xs) = min (due s) (first-due (x ∷ xs))
 
+-- no unserved packet of the table is due before its first due time
 pub first-due-before : (ss : List Stream) (s : Stream) → List·Mem s ss → first-due ss ≤ due s
 unfolding first-due
 first-due-before ss s m = ∥∥₁-elim m le-prop (λ place. go ss place)
@@ -181,6 +183,7 @@ first-due-counts x (y ∷ ys) all = go (first-due-counts y ys (rest-of all)) (de
         let e : min (due x) (first-due (y ∷ ys)) ≡ first-due (y ∷ ys) = omega arith in
         rw e (omega (arith, rest))
 
+-- of well-formed streams, h is 0 before the first due time, and above 0 there unless it is 0 everywhere
 pub first-due-is-first : (ss : List Stream) → AllWellFormed ss → IsFirstDue ss (first-due ss)
 first-due-is-first [] all t some = absurd (none t some)
   where

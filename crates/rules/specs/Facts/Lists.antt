@@ -26,6 +26,7 @@ module _ {A : Type 0} where
   still-there (y ∷ ys) (List·Memᴰ·tail place) (List·Memᴰ·head e′) other = List·Memᴰ·head e′
   still-there (y ∷ ys) (List·Memᴰ·tail place) (List·Memᴰ·tail m) other = List·Memᴰ·tail (still-there ys place m other)
 
+  -- a list with an element has a length of at least 1
   pub mem-nonempty : (xs : List A) (x : A) → List·Mem x xs → 1 ≤ length xs
   mem-nonempty [] x m = absurd (not-mem-nil m)
   mem-nonempty (y ∷ ys) x m = omega arith

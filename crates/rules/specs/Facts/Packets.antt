@@ -28,11 +28,13 @@ packet-next s k =
 abbrev pub advanced : ℕ → Stream → Stream
 advanced k s = record { number = s .number; period = s .period; deadline = s .deadline; release = s .release + k * s .period }
 
+-- with no packet sent it is the stream as it was ..
 pub advanced-none : (s : Stream) → advanced 0 s ≡ s
 advanced-none s =
     let e : s .release + 0 * s .period ≡ s .release = omega arith in
     λ i. record { number = s .number; period = s .period; deadline = s .deadline; release = e i }
 
+-- .. and with k packets sent and then the next one, k + 1 are sent
 pub advanced-next : (s : Stream) (k : ℕ) → next (advanced k s) ≡ advanced (k + 1) s
 advanced-next s k =
     let e : s .release + k * s .period + s .period ≡ s .release + (k + 1) * s .period = omega (arith, add-mul k 1 (s .period)) in

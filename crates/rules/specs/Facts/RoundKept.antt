@@ -74,6 +74,7 @@ unfolding future demand
 future-late f [] x t low = omega arith
 future-late f (s ∷ ss) x t low = omega (arith, first-of low, future-late f ss x t (rest-of low))
 
+-- what holds of a stream at its next packet if it is served, and of it as it is if not, holds of it after the round
 pub passed-elim : (chosen : List Stream) (P : Stream → Type 0) (x : Stream)
     → (Served chosen x → P (next x)) → ((Served chosen x → ⊥) → P x) → P (passed chosen x)
 passed-elim chosen P x if-served if-not = go (served chosen x)
@@ -159,6 +160,7 @@ module _ (chosen ss : List Stream) where
       go (x ∷ xs) =
           rw (go xs, passed-elim chosen (λ y. y .number ≡ x .number) x (λ _. refl) (λ _. refl))
 
+  -- the table after a round is a table again, whichever streams were chosen
   pub passed-is-table : IsTable ss → IsTable (passed-table chosen ss)
   passed-is-table table =
       let formed = table .well-formed in
@@ -188,6 +190,7 @@ module _ (chosen ss : List Stream) where
       passed-elim chosen (λ y. y .release ≤ s + 1 + span) x (λ here. let r = released x m here in omega arith) (λ not-here. omega arith))
 
 module _ (b now : ℕ) (ss : List Stream) (ready : IsReady b now ss) where
+  -- in a ready table everything fits at now
   pub ready-fits : Fits b now ss
   ready-fits = start-rule-fits b now ss (ready .table .well-formed) (ready .start-rule) (ready .due-after)
 
@@ -196,6 +199,7 @@ module _ (b now : ℕ) (ss : List Stream) (ready : IsReady b now ss) where
     pub early-fits : Fits b s ss
     early-fits t = le-trans (lazy-fits b cap ss positive lazy is-lazy t) (mul-le-mul-left b (omega arith))
 
+    -- up to the lazy start the slots at s are a choice: for every t, b of them are due by t, or all streams released by s and due by t are among them
     pub round-choice : IsChoice b s ss (slots b s ss)
     round-choice = slots-are-choice b s ss (ready .table) (fits-due-after b s ss (ready .table .well-formed) early-fits)
 

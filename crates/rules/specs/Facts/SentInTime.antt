@@ -45,6 +45,7 @@ module _ (b gap : ℕ) (positive : 1 ≤ b) (gap-positive : 1 ≤ gap) where
       Or·inr
 
   module _ (st : State) (is-ready : IsReadyState b st) where
+    -- lazy rounds from a ready state, however many were held, leave a ready state
     pub held-ready : {rounds : List Round} {at : State} → Held b gap st rounds at → IsReadyState b at
     held-ready none = is-ready
     held-ready (then {at = before} held s lazy) = ready-after before (held-ready held) s lazy

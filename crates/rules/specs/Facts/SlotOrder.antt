@@ -23,6 +23,7 @@ before-asym p q = then-asym (then-asym (λ l m. omega (arith, l, m)))
 before-trans : (p q r : Packet) → ComesBefore p q → ComesBefore q r → ComesBefore p r
 before-trans p q r = then-trans (then-trans (λ l m. omega (arith, l, m)))
 
+-- one packet comes before another in one way only
 pub before-prop : (p q : Packet) → IsProp (ComesBefore p q)
 before-prop p q = then-prop (then-prop le-prop)
 
@@ -104,6 +105,7 @@ module _ (s : ℕ) (ss : List Stream) (table : IsTable ss) where
       let differ : Pairwise Differ ss = Pairwise·of-map (λ (x : Stream). x .number) (λ x y differ. differ) (table .differ) in
       Pairwise·filter (λ (x : Stream). may-ride (packet x 0) s) differ
 
+  -- in a table, the streams whose unserved packet may ride, put in order, stand in the order of the slots
   pub line-in-order : InSlotOrder (in-order (riders s ss))
   line-in-order = in-order-is-sorted (riders s ss) riders-differ
 

@@ -56,6 +56,7 @@ before-false x y e = go (ltb (due x) (due y)) refl _ e
     go true less rest e = absurd (true≢false e)
     go false less rest e = ltb-false (due x) (due y) less
 
+-- with x put in, a list has x and all the streams it had, and nothing else
 pub put-perm : (x : Stream) (ys : List Stream) → Perm (put-in-order x ys) (x ∷ ys)
 unfolding put-in-order
 put-perm x [] = Perm·refl (x ∷ [])
@@ -108,6 +109,7 @@ past-full b xs sorted t y late early =
     let some : 1 ≤ length (drop b xs) = mem-nonempty (drop b xs) y late in
     rw (all-early, length-take) (omega (arith, rw length-drop at some))
 
+-- `riders` has just the streams of a list whose unserved packet may ride at s
 pub rider-iff : (s : ℕ) (ss : List Stream) (x : Stream) → List·Mem x (riders s ss) ↔ (List·Mem x ss × MayRide (packet x 0) s)
 unfolding riders
 rider-iff s ss x = mem-filter (λ (y : Stream). may-ride (packet y 0) s)

@@ -17,18 +17,22 @@ use Rattle.rules.specs.Ready.{AllWellFormed, Fits, most-in}
 pub first-of : {P : Stream → Type 0} {s : Stream} {ss : List Stream} → ((x : Stream) → List·Mem x (s ∷ ss) → P x) → P s
 first-of {P} {s} {ss} all = all s mem-cons-self
 
+-- what holds of all streams of a list holds of those behind the first
 pub rest-of : {P : Stream → Type 0} {s : Stream} {ss : List Stream} → ((x : Stream) → List·Mem x (s ∷ ss) → P x) → (x : Stream) → List·Mem x ss → P x
 rest-of {P} {s} {ss} all x m = all x (mem-cons-of-mem s m)
 
+-- the period of a well-formed stream is at least 1
 pub period-positive : (s : Stream) → WellFormed s → 1 ≤ s .period
 period-positive s w = le-trans (w .0) (w .1)
 
+-- of well-formed streams, T units more add at most W(T), the sum of ⌈T/P⌉, to h(t)
 pub future-window : (ss : List Stream) → AllWellFormed ss → (t T : ℕ) → future ss (t + T) ≤ future ss t + most-in ss T
 unfolding future most-in
 future-window [] all t T = omega arith
 future-window (s ∷ ss) all t T =
     omega (arith, window (s .period) (period-positive s (first-of all)) (due s) t T, future-window ss (rest-of all) t T)
 
+-- of well-formed streams, h(t) never falls as t grows
 pub future-mono : (ss : List Stream) → AllWellFormed ss → (t t′ : ℕ) → t ≤ t′ → future ss t ≤ future ss t′
 unfolding future
 future-mono [] all t t′ le = omega arith
@@ -42,6 +46,7 @@ demand-at-zero [] t = refl
 demand-at-zero (s ∷ ss) t =
     let e : 0 + s .deadline ≡ s .deadline = omega arith in rw (e, demand-at-zero ss t)
 
+-- of well-formed streams, h(t) is 0 where every unserved packet is due after t
 pub future-before-all : (ss : List Stream) → AllWellFormed ss → (t : ℕ) → ((s : Stream) → List·Mem s ss → t < due s) → future ss t ≡ 0
 unfolding future
 future-before-all [] all t late = refl
@@ -60,9 +65,11 @@ future-counts ss all s m t early = ∥∥₁-elim m le-prop (λ place. go ss all
     go (x ∷ xs) all (List·Memᴰ·head e) = omega (arith, here x (first-of all) (subst (λ (y : Stream). due y ≤ t) e early))
     go (x ∷ xs) all (List·Memᴰ·tail place) = omega (arith, go xs (rest-of all) place)
 
+-- where everything fits at x, the start rule holds at x ..
 pub fits-start-rule : (b x : ℕ) (ss : List Stream) → Fits b x ss → StartRule b x ss
 fits-start-rule b x ss fits t later = fits t
 
+-- .. and every unserved packet, of well-formed streams, is due after x ..
 pub fits-due-after : (b x : ℕ) (ss : List Stream) → AllWellFormed ss → Fits b x ss → DueAfter x ss
 fits-due-after b x ss all fits s m = go (decLt x (due s))
   where
@@ -73,6 +80,7 @@ fits-due-after b x ss all fits s m = go (decLt x (due s))
         let zero-room : future ss (due s) ≤ 0 = rw (none, mul-zero) at (fits (due s)) in
         omega (arith, future-counts ss all s m (due s) (omega arith))
 
+-- .. and where these two hold of well-formed streams, everything fits at x
 pub start-rule-fits : (b x : ℕ) (ss : List Stream) → AllWellFormed ss → StartRule b x ss → DueAfter x ss → Fits b x ss
 start-rule-fits b x ss all rule later t = go (decLt x t)
   where
@@ -85,9 +93,11 @@ pub all-map : {A B : Type 0} (P : B → Type 0) → ((x : B) → IsProp (P x)) �
     → ((x : A) → List·Mem x xs → P (f x)) → (y : B) → List·Mem y (map f xs) → P y
 all-map P prop f xs all y m = ∥∥₁-elim (mem-map .0 m) (prop y) (λ w. subst P (w .2) (all (w .0) (w .1)))
 
+-- a stream is well formed in one way only
 pub well-formed-prop : (s : Stream) → IsProp (WellFormed s)
 well-formed-prop s = ×-prop le-prop le-prop
 
+-- well-formed streams stay so with every unserved packet released at 0
 pub at-zero-well-formed : (ss : List Stream) → AllWellFormed ss → AllWellFormed (map at-zero ss)
 at-zero-well-formed ss all = all-map WellFormed well-formed-prop at-zero ss all
 
@@ -98,5 +108,6 @@ demand-rule-fits b ss all rule =
     (λ t some. let e : t - 0 ≡ t = omega arith in rw (demand-at-zero ss t, e) (rule t some))
     (all-map (λ s. 0 < due s) (λ s. le-prop) at-zero ss (λ s m. let w = all s m in omega arith))
 
+-- where everything fits at 0 with every unserved packet released at 0, the demand rule holds
 pub fits-demand-rule : (b : ℕ) (ss : List Stream) → Fits b 0 (map at-zero ss) → DemandRule b ss
 fits-demand-rule b ss fits t some = let e : t - 0 ≡ t = omega arith in rw (demand-at-zero ss t, e) at (fits t)

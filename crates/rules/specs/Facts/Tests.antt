@@ -18,6 +18,7 @@ use Rattle.rules.specs.Ready.{most-in, IsBusy, IsReady}
 use Rattle.rules.specs.Facts.Busy.{busy-settles-demand, busy-settles-start}
 use Rattle.rules.specs.Facts.LazyStart.{first-due, first-due-before}
 
+-- where a test of two parts is passed, so is each part
 pub both : {a b : Bool} → So (a && b) → So a × So b
 both {a} {b} tested = and-eq-true-iff a b .0 tested
 
@@ -84,6 +85,7 @@ unfoldable pub keeps-demand : ℕ → List Stream → ℕ → Bool
 unfolding all-below demand packets-by decLe
 keeps-demand b ss T = all-below (λ t. leb (demand ss (t + 1)) (b * (t + 1))) T
 
+-- where the tests pass that the streams are a table, T a busy length, and the demand of t at most b × t for 1 to T, the demand rule holds
 pub tested-demand : (b T : ℕ) (ss : List Stream) → So (is-table ss) → So (is-busy b ss T) → So (keeps-demand b ss T) → DemandRule b ss
 unfolding keeps-demand
 tested-demand b T ss table busy tested =
@@ -102,6 +104,7 @@ unfoldable pub is-ready : ℕ → ℕ → List Stream → ℕ → Bool
 unfolding is-table is-busy keeps-demand keeps-start
 is-ready b now ss T = is-table ss && (is-busy b ss T && (keeps-demand b ss T && keeps-start b now ss T))
 
+-- where the test of a ready table is passed, with any T, the table is ready at now ..
 pub tested-ready : (b now T : ℕ) (ss : List Stream) → So (is-ready b now ss T) → IsReady b now ss
 unfolding is-ready keeps-start
 tested-ready b now T ss tested =
@@ -125,6 +128,7 @@ tested-ready b now T ss tested =
       due-after = λ s m. lt-of-lt-of-le after (first-due-before ss s m);
     }
 
+-- .. and T is a busy length of it
 pub is-ready-busy : (b now T : ℕ) (ss : List Stream) → So (is-ready b now ss T) → IsBusy b ss T
 unfolding is-ready
 is-ready-busy b now T ss tested =

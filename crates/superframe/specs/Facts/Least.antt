@@ -34,6 +34,7 @@ module _ (P : ℕ → Type 0) (decide : (n : ℕ) → Dec (P n)) where
       go (inr none) (yes p) = inl (b, least-where-none-below b none p)
       go (inr none) (no np) = inr (none-below-one-more b none np)
 
+  -- where some n has the property, a least number that has it can be found
   pub least-exists : (n : ℕ) → P n → (m : ℕ) × IsLeast P m
   least-exists n p = go (search-below (suc n))
     where

@@ -39,6 +39,7 @@ nothing-left (x ∷ xs) n all =
     let both = forall-mem-cons (λ p. ∣-prop p n) .0 all in
     omega (arith, mod-eq-zero-of-dvd x (both .0), nothing-left xs n (both .1))
 
+-- where the test finds none up to b, every common multiple of the periods is above b
 pub above : (ps : List ℕ) (b n : ℕ) → So (none-up-to ps b) → IsCommonMultiple ps n → b < n
 unfolding none-up-to
 above ps zero n tested common = common .0
@@ -51,6 +52,7 @@ above ps (suc b) n tested common =
     go below left (yes e) = let none : remainders ps (suc b) ≡ 0 = rw (← e) (nothing-left ps n (common .1)) in omega arith
     go below left (no ne) = omega arith
 
+-- where the test of the ranges is passed, every period is 1 to 240
 pub in-range : (ps : List ℕ) → So (ranges ps) → AllInRange ps
 unfolding ranges
 in-range [] tested = λ p m. absurd (not-mem-nil m)

@@ -11,6 +11,7 @@ use Rattle.superframe.specs.Decide.{decide-in-range, lcm-exists}
 use Rattle.superframe.specs.Superframe.{refused, within-limit, by-range, superframe-of}
 
 module _ (periods : List ℕ) where
+  -- unless every period is 1 to 240, the answer is 18 with value 0
   pub refuses-18 : (AllInRange periods → ⊥) → superframe-of periods ≡ refused 18
   unfolding superframe-of by-range
   refuses-18 bad = go (decide-in-range periods)
@@ -19,6 +20,7 @@ module _ (periods : List ℕ) where
       go (yes good) = absurd (bad good)
       go (no _) = refl
 
+  -- for periods in range with a least common multiple m of at most 5,040, the answer is 0 with value m
   pub gives-lcm : AllInRange periods → (m : ℕ) → IsLcm periods m → m ≤ 5040 → superframe-of periods ≡ record { answer = 0; value = m }
   unfolding superframe-of by-range within-limit
   gives-lcm good m lcm low = go (decide-in-range periods)
@@ -31,6 +33,7 @@ module _ (periods : List ℕ) where
       go (yes g) = at (lcm-exists periods g .0) (lcm-unique periods _ m (lcm-exists periods g .1) lcm) (decLe _ 5040)
       go (no bad) = absurd (bad good)
 
+  -- for periods in range with no common multiple up to 5,040, the answer is 19 with value 0
   pub refuses-19 : AllInRange periods → ((n : ℕ) → IsCommonMultiple periods n → 5040 < n) → superframe-of periods ≡ refused 19
   unfolding superframe-of by-range within-limit
   refuses-19 good high = go (decide-in-range periods)

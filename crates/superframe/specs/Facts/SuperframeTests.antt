@@ -16,6 +16,7 @@ superframe-test ps zero zero = false
 superframe-test ps zero (suc b) = ranges ps && ((eqb (remainders ps (suc b)) 0 && none-up-to ps b) && leb (suc b) 5040)
 superframe-test ps (suc n) value = ranges ps && ((eqb (suc n) 19 && eqb value 0) && none-up-to ps 5040)
 
+-- where the test of periods, an answer and a value is passed, superframe gives that answer and value for the periods
 pub tested-superframe : (ps : List ℕ) (answer value : ℕ) → So (superframe-test ps answer value) → superframe-of ps ≡ record { answer = answer; value = value }
 unfolding superframe-test
 tested-superframe ps zero zero tested = absurd (true≢false (sym tested))

@@ -116,6 +116,7 @@ module _ {M : Type 1} (𝓤 : URA M) (H : Heap 𝓤) (A : Atoms 𝓤) (W : Given
   number-owned : (n : ℕ) → n < 2 ^ 32 → ent 𝓤 (emp 𝓤) (sem 𝓤 H A (u32 .own n (vint w32 n ∷ [])))
   number-owned n fits = uint-makes 𝓤 H A W w32 n (vint w32 n ∷ []) (refl, fits)
 
+  -- a planner at its machine value is owned with nothing given for it
   pub planner-owned : (h : Planner) → IsPlanner h → ent 𝓤 (emp 𝓤) (sem 𝓤 H A (P.the-row .own h (mach h ∷ [])))
   planner-owned h is = LL.makes P.the-type P′.the-plain 𝓤 H A h (mach h ∷ []) is
 

@@ -14,6 +14,7 @@ use Rattle.planner.specs.declared.Planner.{Planner}
 pub below : {limit n : ℕ} → n < 1 → ((1 ≤ n) × (n ≤ limit)) → ⊥
 below {limit} {n} low range = lt-irrefl n (lt-of-lt-of-le low (range .0))
 
+-- a number above the limit is not 1 to the limit
 pub above : {limit n : ℕ} → limit < n → ((1 ≤ n) × (n ≤ limit)) → ⊥
 above {limit} {n} high range = lt-irrefl limit (lt-of-lt-of-le high (range .1))
 
@@ -29,6 +30,7 @@ module _ {s : Setting} where
   pub open-refused : {a : ℕ} {p : Planner} → a ≡ answer-of (open-refusals s) → (a ≡ 0 → ⊥) → IsFresh zeros p → IsOpened s (record { answer = a; planner = p })
   open-refused is some fresh = record { answer = is; opened = λ zero. absurd (some (is ∙ zero)); closed = λ _. fresh }
 
+  -- 0 from the refusals, with the fresh planner of the numbers passed, is what a successful open gives
   pub open-done : {a : ℕ} {p : Planner} → a ≡ answer-of (open-refusals s) → a ≡ 0 → IsFresh s p → IsOpened s (record { answer = 0; planner = p })
   open-done is zero fresh = record { answer = sym zero ∙ is; opened = λ _. fresh; closed = λ some. absurd (some (sym is ∙ zero)) }
 

@@ -74,10 +74,12 @@ add-five {p} {o} =
       ),
     )
 
+-- remove answers 5 exactly if the planner is not sound ..
 pub remove-five : {p : Planner} {id : ℕ} {r : Changed} → IsRemove p id r → (r .answer ≡ 5) ↔ (Sound p → ⊥)
 unfolding NoneIs
 remove-five {p} {id} = change-five p (not-held id (content p) ∷ []) (λ e. omega (arith, e), tt)
 
+-- .. and so does round, whatever the buffer
 pub round-five : {p : Planner} {before after : List ℕ} {r : Rounded} → IsRound p before after r → (r .answer ≡ 5) ↔ (Sound p → ⊥)
 unfolding NoneIs
 round-five {p} {before} is =

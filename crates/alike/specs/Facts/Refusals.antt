@@ -11,12 +11,6 @@ AreAlike [] (s ∷ ss) = ⊥
 AreAlike (r ∷ rs) [] = ⊥
 AreAlike (r ∷ rs) (s ∷ ss) = (r .number ≡ s .number) × ((r .Applies ↔ s .Applies) × AreAlike rs ss)
 
--- refusals are like themselves
-pub alike-itself : (rs : List Refusal) → AreAlike rs rs
-unfolding AreAlike
-alike-itself [] = tt
-alike-itself (r ∷ rs) = (refl, ((λ a. a, λ a. a), alike-itself rs))
-
 -- their answers are the same
 pub same-answers : (rs ss : List Refusal) → AreAlike rs ss → answer-of rs ≡ answer-of ss
 unfolding AreAlike answer-of

@@ -24,9 +24,11 @@ pub record Copied (ids old : List ℕ) (k : ℕ) (values : List ℕ) : Type 0 wh
   pub content : values ≡ paste old 3 ids k
   pub long : length values ≡ 68
 
+-- before the first id is copied the 68 values are as they were
 pub none-copied : {ids old : List ℕ} → length old ≡ 68 → Copied ids old 0 old
 none-copied {ids} {old} long = record { content = paste-zero old 3 ids; long = long }
 
+-- with id k written at place 3 + k, one id more stands behind the first three values
 pub one-more-copied : {ids old : List ℕ} {k : ℕ} {values : List ℕ} {v : ℕ} → length ids ≡ 64 → length old ≡ 68 → k < 64
     → Copied ids old k values → v ≡ getD ids k 0 → Copied ids old (k + 1) (set values (3 + k) v)
 one-more-copied {ids} {old} {k} {values} {v} sixty-four sixty-eight below copied same =
@@ -37,6 +39,7 @@ one-more-copied {ids} {old} {k} {values} {v} sixty-four sixty-eight below copied
       long = length-set values (3 + k) v ∙ copied .long;
     }
 
+-- when all n are copied, the first 3 + n values are the three that stood there and the n ids
 pub all-copied : {ids old : List ℕ} {n k : ℕ} {values : List ℕ} → length ids ≡ 64 → length old ≡ 68 → n ≤ 64 → k ≡ n → Copied ids old k values
     → take (3 + n) values ≡ take 3 old ++ take n ids
 all-copied {ids} {old} {n} sixty-four sixty-eight few ended copied =

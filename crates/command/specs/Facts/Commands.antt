@@ -52,9 +52,11 @@ malformed refused =
       no-round = λ good. refused 82 [] holding good;
     }
 
+-- a line of more than 63 bytes is malformed
 pub too-long : (line : List ℕ) → 63 < length line → IsMalformed line
 too-long line long = malformed (λ letter ns takes good. lt-irrefl 0 (omega (arith, good .short)))
 
+-- the empty line is malformed
 pub no-bytes : (line : List ℕ) → length line ≡ 0 → IsMalformed line
 no-bytes line empty = malformed (λ letter ns takes good. lt-irrefl 0 (omega (arith, ap length (good .written .begins))))
 
@@ -63,6 +65,7 @@ good-fields : {letter : ℕ} {ns line : List ℕ} → IsGood letter ns line → 
 good-fields good = rw (good .written .begins) (good .written .numbers)
 
 module _ {line : List ℕ} {letter : ℕ} {r : Fields} (split : IsSplit line letter r) where
+  -- a line of 1 to 63 bytes whose fields are read as not good is malformed
   pub bad-fields : r .good ≡ false → IsMalformed line
   bad-fields bad = malformed (λ letter ns takes good. split .read .bad bad ns (takes-few takes) (good .fits) (good-fields good))
 
@@ -77,12 +80,15 @@ module _ {line : List ℕ} {letter : ℕ} {r : Fields} (split : IsSplit line let
       }
 
   module _ (good : r .good ≡ true) {l : ℕ} (its-letter : letter ≡ l) where
+    -- with four numbers read and its fields good, a line is a good one of its letter and these four ..
     pub line-of-four : r .count ≡ 4 → IsGood l (getD (r .values) 0 0 ∷ getD (r .values) 1 0 ∷ getD (r .values) 2 0 ∷ getD (r .values) 3 0 ∷ []) line
     line-of-four four = good-line good l _ its-letter (rw four (first-four (r .values) (omega (arith, split .read .read good .0))))
 
+    -- .. with one number read, of its letter and that one ..
     pub line-of-one : r .count ≡ 1 → IsGood l (getD (r .values) 0 0 ∷ []) line
     line-of-one one = good-line good l _ its-letter (rw one (first-one (r .values) (omega (arith, split .read .read good .0))))
 
+    -- .. and with none, of its letter alone
     pub line-of-none : r .count ≡ 0 → IsGood l [] line
     line-of-none no-field = good-line good l [] its-letter (rw no-field refl)
 

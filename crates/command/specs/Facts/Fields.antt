@@ -87,9 +87,11 @@ module _ (line : List ℕ) (at : ℕ) (inside : at < length line) where
 
   -- a field that is read, and the rest
   module _ {v n : ℕ} (comma : getD line at 0 ≡ 44) (start : IsNumberAtStart (drop (at + 1) line) v n) where
+    -- a field that is read ends within the line
     pub field-within : at + 1 + n ≤ length line
     field-within = omega (arith, length-drop (at + 1) line, start .within)
 
+    -- with whatever fields follow it, it makes fields with its number in front ..
     pub field-on : (ns : List ℕ) → IsFields (drop (at + 1 + n) line) ns → IsFields (drop at line) (v ∷ ns)
     field-on ns fields =
         let rest = drop (at + 1) line in
@@ -97,6 +99,7 @@ module _ (line : List ℕ) (at : ℕ) (inside : at < length line) where
         rw (at-byte, comma, ← (drop-drop n (at + 1) line), take-append-drop n rest) in
         rw there (more (start .numeral) fields)
 
+    -- .. and whatever numbers the fields from there on have, its own is the first, and the fields behind it have the others
     pub field-back : (ns : List ℕ) → IsFields (drop at line) ns → IsAfter (drop (at + 1 + n) line) (v ∷ []) ns
     field-back ns fields = go (fields-cases fields)
       where

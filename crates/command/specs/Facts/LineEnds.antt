@@ -8,9 +8,11 @@ use native.Mathlib.Omega.{arith}
 use lib.ListN.{getD}
 use Rattle.command.specs.Lines.{NoEnd}
 
+-- before its first byte is seen a line has no end ..
 pub none-seen : (bytes : List ℕ) (from : ℕ) → NoEnd bytes from from
 none-seen bytes from k on below ends = lt-irrefl k (omega (arith, on, below))
 
+-- .. and where it has none before byte i, and that is not 10, it has none before byte i + 1
 pub one-more-seen : (bytes : List ℕ) (from i : ℕ) → NoEnd bytes from i → (getD bytes i 0 ≡ 10 → ⊥) → NoEnd bytes from (i + 1)
 one-more-seen bytes from i seen other k on below ends = go (decLt k i)
   where

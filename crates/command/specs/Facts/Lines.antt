@@ -28,6 +28,7 @@ pub record IsReadUpTo (line values : List ℕ) (count at : ℕ) : Type 0 where
   pub on : (ns : List ℕ) → IsFields (drop at line) ns → IsFields (drop 1 line) (take count values ++ ns)
   pub back : (ns : List ℕ) → IsFields (drop 1 line) ns → IsAfter (drop at line) (take count values) ns
 
+-- at the byte behind its letter no field of a line is read yet
 pub at-first : (line values : List ℕ) → 1 ≤ length line → length values ≡ 4 → IsReadUpTo line values 0 1
 at-first line values some places =
     record {
@@ -113,6 +114,7 @@ pub not-good : {line values : List ℕ} {count : ℕ} → ((ns : List ℕ) → l
     → IsReadFields line (record { good = false; count = count; values = values })
 not-good fails = record { read = λ e. absurd (false≢true e); bad = λ _. fails }
 
+-- to call the fields good is right where the first `count` values are the line's numbers, and no others are
 pub is-good : {line values : List ℕ} {count : ℕ} → count ≤ length values → AreNumbers line (take count values)
     → IsReadFields line (record { good = true; count = count; values = values })
 is-good within numbers = record { read = λ _. (within, numbers); bad = λ e. absurd (true≢false e) }

@@ -34,6 +34,7 @@ begins {bytes = bytes} {n = n} start i some before =
       smaller = begun .smaller;
     }
 
+-- where a number ends no digit stands, and 10 says so
 pub no-digit-at : {bytes : List ℕ} {i : ℕ} → Ends bytes i → IsDigitAt bytes i 10
 no-digit-at ends = record { at-most = omega arith; digit = λ small. absurd (lt-irrefl 10 small); none = λ _. ends }
 
@@ -43,6 +44,7 @@ pub record IsReadTo (bytes : List ℕ) (i value : ℕ) : Type 0 where
   pub fits : value < 4_294_967_296
   pub numeral : ((i ≡ 0) × (value ≡ 0)) ⊎ IsNumeral (take i bytes) value
 
+-- before the first byte nothing is read, and the value is 0
 pub none-read : (bytes : List ℕ) → IsReadTo bytes 0 0
 none-read bytes = record { within = omega arith; fits = omega arith; numeral = inl (refl, refl) }
 

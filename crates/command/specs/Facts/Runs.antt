@@ -15,10 +15,12 @@ use Rattle.command.specs.declared.step.Step.{Step}
 use Rattle.command.specs.Runs.{part-of, none, one-more, CanRun, HasRun, HasRunLast, Running}
 
 module _ {s : Reached} {bytes before : List ℕ} (can : CanRun s bytes before) where
+  -- before the first line the run stands where it began, and nothing is written
   pub none-run : Running s bytes before before s
   none-run = record { reaches = none; in-input = can .in-input; in-buffer = can .in-buffer; counts = omega arith; long = refl }
 
   module _ {after : List ℕ} {t : Reached} (running : Running s bytes before after t) where
+    -- while a byte of the input is left, the number of the next line fits 64 bits
     pub number-fits : t .from < length bytes → t .number + 1 < 18_446_744_073_709_551_616
     number-fits more = omega (arith, running .counts, can .counts)
 
@@ -43,6 +45,7 @@ module _ {s : Reached} {bytes before : List ℕ} (can : CanRun s bytes before) w
             }
 
     module _ {to : ℕ} (line-end : IsLineEnd bytes (t .from) to) where
+      -- where the next line's end is that of the input, no whole line is left, and the run is done
       pub no-line-left : to ≡ length bytes → HasRun s bytes before after t
       no-line-left last =
           record {
@@ -53,6 +56,7 @@ module _ {s : Reached} {bytes before : List ℕ} (can : CanRun s bytes before) w
             stopped = inl (subst (IsLineEnd bytes (t .from)) last line-end);
           }
 
+      -- where fewer than 1,430 places of the buffer are left, the run is done
       pub buffer-full : length after < t .end + 1430 → HasRun s bytes before after t
       buffer-full full =
           record {
@@ -81,6 +85,7 @@ module _ {s : Reached} {bytes before : List ℕ} (can : CanRun s bytes before) w
           below a b le other = omega arith
 
 module _ {s : Reached} {bytes before : List ℕ} (can : CanRun s bytes before) where
+  -- with nothing left behind the last line end, no line is run, and all stays as it was ..
   pub last-none : s .from ≡ length bytes → HasRunLast s bytes before before s
   last-none done =
       record {
@@ -90,6 +95,7 @@ module _ {s : Reached} {bytes before : List ℕ} (can : CanRun s bytes before) w
         in-buffer = can .in-buffer;
       }
 
+  -- .. and likewise with fewer than 1,430 places of the buffer left
   pub last-waits : length before < s .end + 1430 → HasRunLast s bytes before before s
   last-waits full =
       record {

@@ -30,10 +30,12 @@ numeral-value (further {bytes = bytes} {n = n} begun positive d small) = omega (
 pub numeral-unique : {bytes : List ℕ} {m n : ℕ} → IsNumeral bytes m → IsNumeral bytes n → m ≡ n
 numeral-unique first second = numeral-value first ∙ sym (numeral-value second)
 
+-- a number in text has at least one byte
 pub numeral-not-empty : {bytes : List ℕ} {n : ℕ} → IsNumeral bytes n → 1 ≤ length bytes
 numeral-not-empty (digit d small) = omega arith
 numeral-not-empty (further {bytes = bytes} begun positive d small) = omega (arith, length-append bytes ((48 + d) ∷ []))
 
+-- every byte of a number in text is a digit
 pub numeral-digits : {bytes : List ℕ} {n : ℕ} → IsNumeral bytes n → (i : ℕ) → i < length bytes → IsDigit (getD bytes i 0)
 numeral-digits (digit d small) zero low = (omega arith, omega arith)
 numeral-digits (digit d small) (suc i) low = absurd (lt-irrefl 0 (omega arith))
@@ -53,6 +55,7 @@ pub record IsBegun (bytes : List ℕ) (i n : ℕ) : Type 0 where
   pub positive : 1 ≤ value
   pub smaller : value ≤ n
 
+-- the first bytes of a number in text, some but not all, are one too: not 0, and no larger
 pub numeral-begun : {bytes : List ℕ} {n : ℕ} → IsNumeral bytes n → (i : ℕ) → 1 ≤ i → i < length bytes → IsBegun bytes i n
 numeral-begun (digit d small) i some low = absurd (lt-irrefl 0 (omega arith))
 numeral-begun (further {bytes = bytes} {n = n} begun positive d small) i some low = go (decLt i (length bytes)) (λ before. numeral-begun begun i some before)

@@ -16,10 +16,12 @@ pub no-end-first : (a b : List ℕ) → HasNoEnd (a ++ b) → HasNoEnd a
 no-end-first a b none-there k low within ends =
     none-there k low (omega (arith, length-append a b)) (List·getD-append a b 0 k within ∙ ends)
 
+-- where the whole has no line end, its second part has none ..
 pub no-end-second : (a b : List ℕ) → HasNoEnd (a ++ b) → HasNoEnd b
 no-end-second a b none-there k low within ends =
     none-there (length a + k) (omega arith) (omega (arith, length-append a b)) (getD-append-add a b k 0 ∙ ends)
 
+-- .. and where neither part has one, the whole has none
 pub no-end-both : (a b : List ℕ) → HasNoEnd a → HasNoEnd b → HasNoEnd (a ++ b)
 no-end-both a b in-a in-b k low within ends = go (decLt k (length a))
   where
@@ -48,6 +50,7 @@ split-line bytes from to line-end inside =
     (drop-drop (to - from) from bytes ∙ ap (λ (k : ℕ). drop k bytes) back ∙ drop-cons bytes to 0 inside
     ∙ ap (λ (x : ℕ). x ∷ drop (suc to) bytes) (line-end .ends inside) ∙ ap (λ (k : ℕ). 10 ∷ drop k bytes) (sym (add-one to)))
 
+-- a line, up to its end, has no line end in it
 pub line-no-end : (bytes : List ℕ) (from to : ℕ) → IsLineEnd bytes from to → HasNoEnd (part-of bytes from to)
 line-no-end bytes from to line-end k low within ends =
     let near : k < to - from = omega (arith, within, length-take (to - from) (drop from bytes)) in

@@ -37,6 +37,7 @@ module _ (l : List ℕ) (from have : ℕ) (in-hand : from ≤ have) (within : ha
       ap (λ (n : ℕ). drop from (take n l)) split ∙ ap (drop from) (take-add from (have - from) l)
       ∙ drop-at (take from l) (take (have - from) (drop from l)) from (length-take-le from l (omega arith))
 
+  -- the first 64 bytes at hand are those from `from` on, as many as there are before `have`, at most 64
   pub first-64 : take 64 (drop from (take have l)) ≡ take (min 64 (have - from)) (drop from l)
   first-64 = ap (take 64) hand-is ∙ go (decLe 64 (have - from))
     where

@@ -27,6 +27,7 @@ abbrev had : Session → List ℕ → List ℕ
 had s input = take (s .have) input
 
 module _ {s : Session} {input out : List ℕ} (can : CanAnswer s input out) where
+  -- the input has all the bytes that the session says it has
   pub all-there : length (had s input) ≡ s .have
   all-there = length-take-le (s .have) input (omega (arith, can .bounds .have, can .places))
 
@@ -99,6 +100,7 @@ module _ {s : Session} {before after : List ℕ} {k : ℕ} (can : CanKeep s befo
       ap (take k) (is .content) ∙ take-at (take k (drop from before)) (drop k before) k long ∙ ap (λ (n : ℕ). take n (drop from before)) (is .count)
       ∙ sym (first-64 before from (s .have) (can .bounds .from) (omega (arith, can .bounds .have, can .places)))
 
+  -- the bytes at hand, moved to the front, at most 64 of them, stand for what was at hand
   pub moved-kept : IsKept s before after (moved-up s k)
   moved-kept =
       record {
@@ -128,6 +130,7 @@ module _ {s kept : Session} {before mid : List ℕ} (is : IsKept s before mid ke
         ∙ ap (λ (l : List ℕ). l ++ drop (kept .have) all) (first ∙ sym (from-zero (had kept mid)))
         ∙ ap (λ (n : ℕ). at-hand kept mid ++ drop n all) back
 
+    -- what was kept with `got` bytes read behind it is the input refilled, if none were got where it has ended
     pub kept-refilled : IsRefilled s wrote before after next
     kept-refilled =
         record {

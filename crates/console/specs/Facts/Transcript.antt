@@ -141,6 +141,7 @@ cut-told {kept = kept} no-end told =
 
 -- what a step does is an answer, put behind what was written
 module _ {p : Planner} {number : ℕ} {line before after : List ℕ} {at : ℕ} {r : Step} (is : IsStep p number line before after at r) where
+  -- the bytes that a step puts are the answer to its line, and its planner is the one that the answer leaves
   pub step-answer : IsAnswer p number line (is .written .bytes) (r .planner)
   step-answer =
       record {
@@ -195,6 +196,7 @@ none-left {read} {written} {p} {n} told = go (told .stands)
         absurd (lt-irrefl 0 (omega (arith, ap length (cut .kept-is), long, length-take-le 64 (cut .line) (cut .long))))
 
 module _ {read written : List ℕ} {p : Planner} {n : ℕ} {kept : List ℕ} (told : Told read written p n kept) (no-end : HasNoEnd kept) (some : kept ≡ [] → ⊥) where
+  -- bytes left without a line end, at least one, are the last line: with its answer all that was read is answered
   pub last-told : (answer : List ℕ) (after : Planner) → IsAnswer p (n + 1) kept answer after → ToldAll read (written ++ answer)
   last-told answer after is = go (told .stands)
     where

@@ -33,6 +33,7 @@ begun-told {s} is input =
       stands = inl refl;
     }))
 
+-- at the beginning nothing is read or written, the input has not ended, and 2^47 turns are left
 pub begun-going : {s : Session} {input : List ℕ} → IsBegun s → Going s false input 140_737_488_355_328
 begun-going {input = input} is =
     record {
@@ -44,6 +45,7 @@ begun-going {input = input} is =
     }
 
 module _ {s : Session} {ended : Bool} {input : List ℕ} {turns : ℕ} (going : Going s ended input turns) where
+  -- between turns whole lines at hand can be answered: the output is empty, and the line number cannot wrap
   pub can-turn : {out : List ℕ} → length input ≡ 65536 → length out ≡ 65536 → CanAnswer s input out
   can-turn places room =
       record { bounds = going .bounds; empty = going .empty; number = omega (arith, going .number); places = places; room = room }
@@ -55,6 +57,7 @@ module _ {s : Session} {ended : Bool} {input : List ℕ} {turns : ℕ} (going : 
       let (read, (written, told)) = going .told in
       (read ++ delivered t after, (written ++ take (t .wrote) out, is .told read written told))
 
+  -- what holds between turns holds again after a turn, with fewer turns left
   pub gone-on : {after out : List ℕ} {t : Turn} {left : ℕ} → IsTurned s input after out t → left < turns → Going (t .session) (t .ended) after left
   gone-on is fewer =
       record {
@@ -65,5 +68,6 @@ module _ {s : Session} {ended : Bool} {input : List ℕ} {turns : ℕ} (going : 
         at-end = is .at-end;
       }
 
+  -- where the input has ended, what is at hand can be answered as the last line
   pub can-finish : {out : List ℕ} → length input ≡ 65536 → length out ≡ 65536 → ended ≡ true → CanAnswerLast s input out
   can-finish places room end = record { can-answer = can-turn places room; no-end = going .at-end end }

@@ -32,6 +32,7 @@ module _ (id : ℕ) (ids : List ℕ) (differ : List·Nodup ids) where
       let least = mem-nonempty same id (mem-filter (λ (y : ℕ). ℕ-discrete y id) {l = ids} .1 (there, refl)) in
       omega (arith, most, least)
 
+  -- an id that is not in the list stands there 0 times
   pub stands-never : (List·Mem id ids → ⊥) → times-in id ids ≡ 0
   unfolding times-in
   stands-never absent =
@@ -59,6 +60,7 @@ unfoldable pub last-of : ℕ → List HeldRound → ℕ
 last-of last [] = last
 last-of last (r ∷ rounds) = last-of (r .start) rounds
 
+-- with one more round at the end, the start of the last round is its start
 pub last-snoc : (last : ℕ) (rounds : List HeldRound) (r : HeldRound) → last-of last (rounds ++ (r ∷ [])) ≡ r .start
 unfolding last-of
 last-snoc last [] r = refl

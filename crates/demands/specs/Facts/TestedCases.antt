@@ -50,6 +50,7 @@ unfoldable pub open-test : Setting → Bool
 unfolding passes decLe decLt Dec·and Dec·not
 open-test s = passes (open-refusals s)
 
+-- numbers that pass the test are answered 0 by open
 pub open-succeeds : (s : Setting) → So (open-test s) → answer-of (open-refusals s) ≡ 0
 unfolding open-test answer-of
 open-succeeds s tested = answer-after (open-refusals s) [] (tested-pass (open-refusals s) tested)
@@ -119,6 +120,7 @@ unfoldable pub add-test : Content → Offer → ℕ → Bool
 unfolding passes decLe decLt decDvd ℕ-discrete Dec·and Dec·not put-by-id is-askable rules-answer
 add-test h o answer = passes (offer-refusals h o) && (is-askable (added h o) && eqb (rules-answer (added h o)) answer)
 
+-- where the test is passed, add on a sound planner gives the answer that was tested
 pub add-answered : (p : Planner) → Sound p → (o : Offer) (answer : ℕ) → So (add-test (content p) o answer) → (r : Changed) → IsAdd p o r → r .answer ≡ answer
 unfolding add-test AllPass
 add-answered p sound o answer tested r is =
@@ -136,6 +138,7 @@ unfoldable pub remove-test : Content → ℕ → ℕ → Bool
 unfolding answer-of ℕ-discrete Dec·not
 remove-test h id answer = eqb (answer-of (not-held id h ∷ [])) answer
 
+-- where the test is passed, remove on a sound planner gives the answer that was tested
 pub remove-answered : (p : Planner) → Sound p → (id answer : ℕ) → So (remove-test (content p) id answer) → (r : Changed) → IsRemove p id r → r .answer ≡ answer
 unfolding remove-test
 remove-answered p sound id answer tested r is =
@@ -147,6 +150,7 @@ remove-answered p sound id answer tested r is =
 abbrev pub after-change : Content → Content → ℕ → Content
 after-change h changed answer = cond (eqb answer 0) changed h
 
+-- after a change the planner holds what was to be left where the answer is 0, and else what it held
 pub change-leaves : {refusals : List Refusal} {p : Planner} {changed : Content} {r : Changed} → IsChange refusals p changed r
     → (answer : ℕ) → r .answer ≡ answer
     → content (r .planner) ≡ after-change (content p) changed answer
@@ -194,6 +198,7 @@ unfolding start-in
 late-test h = ltb 1_000_000_000 (start-in h)
 
 module _ (p : Planner) (sound : Sound p) (before after : List ℕ) (r : Rounded) (long : p .slots ≤ length before) (is : IsRound p before after r) where
+  -- where the test is passed, a round on a sound planner is held at s with these n ids, and the planner then holds what a round at s leaves
   pub round-held : (s n : ℕ) (ids : List ℕ) → So (held-test (content p) s n ids)
       → ((r .answer ≡ 0) × (r .start ≡ s) × (r .n ≡ n) × (take (r .n) after ≡ ids)) × (content (r .planner) ≡ rounded (content p) s)
   unfolding held-test
@@ -211,6 +216,7 @@ module _ (p : Planner) (sound : Sound p) (before after : List ℕ) (r : Rounded)
         w .planner .holds ∙ ap (rounded h) same,
       )
 
+  -- where the test of a late start is passed, it is answered 17, and the planner stays as it was
   pub round-late : So (late-test (content p)) → (r .answer ≡ 17) × (r .planner ≡ p)
   unfolding late-test
   round-late tested =

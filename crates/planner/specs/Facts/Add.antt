@@ -46,17 +46,21 @@ module _ {p : Planner} (sound : Sound p) (long : length (p .table .streams) ≡ 
   pub is-full : p .table .count ≡ 64 → 64 ≤ length (content p .table)
   is-full same = omega (arith, sound-count, same)
 
+  -- 8 does not apply where the count is not 64: fewer than 64 records are held
   pub has-room : (p .table .count ≡ 64 → ⊥) → 64 ≤ length (content p .table) → ⊥
   has-room differs many = differs (omega (arith, sound-count, sound .count, many))
 
 -- the tests for 11, which add nothing to the start
 module _ (h : Content) (start : ℕ) where
+  -- an S at L or before is not within now to now + 239, so that 11 applies ..
   pub too-early : start ≤ h .last → ((now-of h ≤ start) × (start ≤ now-of h + 239)) → ⊥
   too-early early range = lt-irrefl start (omega (arith, early, range .0))
 
+  -- .. nor is one after L + 240 ..
   pub too-late : h .last + 240 < start → ((now-of h ≤ start) × (start ≤ now-of h + 239)) → ⊥
   too-late late range = lt-irrefl start (omega (arith, late, range .1))
 
+  -- .. and every S from L + 1 to L + 240 is
   pub near-now : h .last < start → start ≤ h .last + 240 → (now-of h ≤ start) × (start ≤ now-of h + 239)
   near-now after soon = (omega arith, omega arith)
 
@@ -93,6 +97,7 @@ module _ (h : Content) (o : Offer) where
       not-full : (n : ℕ) → (64 ≤ n → ⊥) → n < 64
       not-full n room = omega arith
 
+  -- where the answer of 6 to 11 is 0, the new stream is well formed and a place is free
   pub offer-passed : answer-of (offer-refusals h o) ≡ 0 → IsWellFormed h o
   unfolding AllNumbered
   offer-passed zero =
@@ -119,6 +124,7 @@ module _ (p : Planner) (o : Offer) where
   pub by-offer : Sound p → (answer-of offers ≡ 0 → ⊥) → answer-of offers ≡ answer-of (add-refusals p o)
   by-offer sound some = sym (answer-later (unsound p) (offers ++ rules) (λ bad. bad sound) ∙ answer-append offers rules some)
 
+  -- where none of 5 to 11 applies, add's answer is that of 12 and 13
   pub by-rules : CanTest p o → answer-of rules ≡ answer-of (add-refusals p o)
   by-rules can =
       sym (answer-later (unsound p) (offers ++ rules) (λ bad. bad (can .sound)) ∙ answer-after offers rules (offer-passes (content p) o (can .formed)))
@@ -161,6 +167,7 @@ module _ {p : Planner} {o : Offer} (can : CanTest p o) where
     pub can-test-table : CanTestDemand (slots-of (content p)) (p .frame) table
     can-test-table = can-test-demand offered-table (sound-numbers p (can .sound)) its-range
 
+    -- .. the start rule with now for the cap, once a busy length is found ..
     pub can-find-table : {busy : ℕ} → IsBusyLength (slots-of (content p)) (streams-of table) busy → 1 ≤ busy
         → CanFindStart (slots-of (content p)) (p .last + 1) (p .last + 1) busy table
     can-find-table {busy} is-busy some = can-find-start offered-table (sound-numbers p (can .sound)) its-range busy is-busy (omega arith) some
@@ -170,6 +177,7 @@ module _ {p : Planner} {o : Offer} (can : CanTest p o) where
         → IsBusyLength (slots-of (content p)) (streams-in (added (content p) o)) r
     busy-of-added {r} = subst (λ (rs : List Record). IsBusyLength (slots-of (content p)) (as-streams rs) r) (has .records)
 
+    -- a next start found on that table is the one of what the planner would hold with the stream
     pub start-of-added : {cap r : ℕ} → IsNextStart (slots-of (content p)) (p .last + 1) cap (streams-of table) r
         → IsNextStart (slots-of (content p)) (p .last + 1) cap (streams-in (added (content p) o)) r
     start-of-added {cap} {r} = subst (λ (rs : List Record). IsNextStart (slots-of (content p)) (p .last + 1) cap (as-streams rs) r) (has .records)

@@ -37,22 +37,28 @@ sound-either-way n p q refused succeeded sound = go (ℕ-discrete n 0)
     go (no other) = subst⁻¹ Sound (refused other) sound
 
 module _ {refusals : List Refusal} {p : Planner} {h : Content} {r : Changed} (is : IsChange refusals p h r) where
+  -- a change whose answer is not 0 hands back the planner just as it was ..
   pub refused-change : (r .answer ≡ 0 → ⊥) → r .planner ≡ p
   refused-change nonzero = is .refused (λ zero. nonzero (is .answer ∙ zero))
 
+  -- .. and one whose answer is 0 a sound planner that holds h
   pub success-change : r .answer ≡ 0 → IsSoundWith h (r .planner)
   success-change zero = is .changed (sym (is .answer) ∙ zero)
 
+  -- so a change leaves a sound planner sound, refused or not
   pub change-keeps-sound : Sound p → Sound (r .planner)
   change-keeps-sound = sound-either-way (r .answer) p (r .planner) refused-change (λ zero. success-change zero .sound)
 
 module _ {p : Planner} {before after : List ℕ} {r : Rounded} (is : IsRound p before after r) where
+  -- a round whose answer is not 0 gives start 0 and n 0, and leaves planner and buffer as they were ..
   pub refused-round : (r .answer ≡ 0 → ⊥) → IsRefusedRound p before after r
   refused-round nonzero = is .refused (λ zero. nonzero (is .answer ∙ zero))
 
+  -- .. and one whose answer is 0 is held: at the lazy start, with the ids of its slots in the buffer
   pub success-round : r .answer ≡ 0 → IsHeldRound p before after r
   success-round zero = is .held (sym (is .answer) ∙ zero)
 
+  -- so a round leaves a sound planner sound, refused or held
   pub round-keeps-sound : Sound p → Sound (r .planner)
   round-keeps-sound = sound-either-way (r .answer) p (r .planner) (λ nonzero. refused-round nonzero .planner) (λ zero. success-round zero .planner .sound)
 
@@ -82,6 +88,7 @@ module _ (p : Planner) (buffer : List ℕ) where
   pub held-is-not-late : answer-of (round-refusals p buffer) ≡ 0 → StartsLate p → ⊥
   held-is-not-late none = answer-zero (late-start p) [] (λ e. omega (arith, e)) (by-last-refusal 0 (λ e. omega (arith, e)) (λ e. omega (arith, e)) none) .0
 
+  -- a planner whose round answers 17 starts late: its lazy start is after 1,000,000,000
   pub seventeen-is-late : answer-of (round-refusals p buffer) ≡ 17 → StartsLate p
   unfolding answer-of
   seventeen-is-late given = go (decide-late p (decide-sound p))

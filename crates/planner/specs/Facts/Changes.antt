@@ -41,9 +41,11 @@ is-sound-with p last has-records sound has-entries files =
 
 -- a change that was refused, and one that was done
 module _ {refusals : List Refusal} {p : Planner} {h : Content} {a : ℕ} (is : a ≡ answer-of refusals) where
+  -- the answer of the refusals, if not 0, with the planner just as it was: a change that is refused ..
   pub change-refused : (a ≡ 0 → ⊥) → IsChange refusals p h (record { answer = a; planner = p })
   change-refused some = record { answer = is; refused = λ _. refl; changed = λ zero. absurd (some (is ∙ zero)) }
 
+  -- .. and 0 with a sound planner that holds h: one that is done
   pub change-done : a ≡ 0 → {q : Planner} → IsSoundWith h q → IsChange refusals p h (record { answer = 0; planner = q })
   change-done zero with-h = record { answer = sym zero ∙ is; refused = λ some. absurd (some (sym is ∙ zero)); changed = λ _. with-h }
 
@@ -55,6 +57,7 @@ remove-passed p id none =
     (Dec·not-not (decide-sound p) .0 (is-sound .0), Dec·not-not (decide-id id (content p .table)) .0 (is-held .0))
 
 module _ {p : Planner} (sound : Sound p) (id : ℕ) where
+  -- the record of an id that a sound planner holds can be taken out of its table
   pub can-take-out : HasId id (content p .table) → CanChange (p .table) id
   can-take-out held = record { count = sound .count; ascending = sound .content-sound .in-range .records .ascending; held = held }
 

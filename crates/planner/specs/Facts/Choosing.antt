@@ -88,9 +88,11 @@ module _ {p : Planner} {s : ℕ} (can : CanChoose p s) (long : length (p .table 
   pub can-walk : Interface.Sound (p .queue) × (p .table .count ≤ length (entries (p .queue)))
   can-walk = (sound .queue-sound, omega (arith, all-entries))
 
+  -- the ids of the table rise over all 64 places, so that each can be looked up by halving
   pub can-search : {ids : List ℕ} → IsIds (p .table) ids → Rises ids
   can-search is-ids = ids-rise (p .table) (sound .count) holds ascending is-ids (λ x m. sound .content-sound .in-range .records .each x m .id .1)
 
+  -- before the first entry is met nothing is chosen
   pub none-visited : Visited (p .queue) (p .table) (slots-of (content p)) s 0 none-chosen
   unfolding released-ids
   none-visited =
@@ -116,14 +118,17 @@ module _ {p : Planner} {s : ℕ} (can : CanChoose p s) (long : length (p .table 
         (entries-in-order (p .queue) (sound .queue-sound)) (sound .files) ∙ cut in
         (record { n = visited .n ∙ ap length (sym slots-are); ids = visited .ids ∙ sym slots-are; few = visited .room }, visited .found)
 
+    -- once B are chosen, they are the ids of the round's slots, each beside its row and its place ..
     pub full-chosen : chosen .n ≡ slots-of (content p) → IsChosen (content p) s chosen × AreFound (p .table) (p .queue) chosen
     full-chosen full = chosen-slots (enough s es i (slots-of (content p)) (sym (visited .n) ∙ full))
 
+    -- .. and so they are once every entry has been met
     pub all-chosen : p .table .count ≤ i → IsChosen (content p) s chosen × AreFound (p .table) (p .queue) chosen
     all-chosen seen =
         let few = subst (λ (n : ℕ). n ≤ slots-of (content p)) (visited .n) (visited .room) in
         chosen-slots (all-seen s es i (slots-of (content p)) (omega (arith, all-entries)) few)
 
+    -- while B are not chosen yet, fewer than 64 are
     pub still-room : (chosen .n ≡ slots-of (content p) → ⊥) → chosen .n < 64
     still-room not-full = omega (arith, below (chosen .n) (slots-of (content p)) (visited .room) not-full, sound .content-sound .in-range .slots .1)
 
@@ -168,6 +173,7 @@ module _ {p : Planner} {s : ℕ} (can : CanChoose p s) (long : length (p .table 
         abbrev IsTakenAt : ℕ → Type 0
         IsTakenAt k = IsFoundAt (p .table) (p .queue) (getD (taken .ids) k 0) (getD (taken .rows) k 0) (getD (taken .places) k 0)
 
+        -- while B are not chosen yet, an entry whose record is released by s is chosen, beside its row and its place
         pub one-more-taken-in : (chosen .n ≡ slots-of (content p) → ⊥) → record-at (p .table) row .release ≤ s
             → Visited (p .queue) (p .table) (slots-of (content p)) s (i + 1) (with-chosen chosen id row place)
         one-more-taken-in not-full early =
@@ -209,6 +215,7 @@ module _ {p : Planner} {s : ℕ} (can : CanChoose p s) (long : length (p .table 
                 (getD-set-same (chosen .places) (chosen .n) place 0 (omega (arith, visited .long-places)))
                 (record { in-table = at-row .0; row-id = at-row .1; in-queue = in-order .places i more }))
 
+        -- an entry whose record is released after s is met and not chosen
         pub one-more-skipped-in : s < record-at (p .table) row .release → Visited (p .queue) (p .table) (slots-of (content p)) s (i + 1) chosen
         one-more-skipped-in late =
             let same-ids = one-more-skipped s es i (triple 0 0 0) more-entries (λ early. lt-irrefl s (omega (arith, late, same-release, early))) in

@@ -40,6 +40,7 @@ sent-in-elim ids P r if-sent if-not = go (decMem ℕ-discrete (r .id) ids)
     go (yes served) = if-sent served
     go (no other) = if-not
 
+-- served or not, a record keeps its id
 pub sent-in-id : (ids : List ℕ) (r : Record) → sent-in ids r .id ≡ r .id
 sent-in-id ids r = sent-in-elim ids (λ (a : Record). a .id ≡ r .id) r (λ _. refl) refl
 
@@ -47,6 +48,7 @@ sent-in-id ids r = sent-in-elim ids (λ (a : Record). a .id ≡ r .id) r (λ _. 
 abbrev pub sent-at : Content → ℕ → Record → Record
 sent-at h s = sent-in (ids-at h s)
 
+-- after the round the rules see a record's stream at its next packet where the stream is in the slots, and else as it was
 pub seen-sent-at : (h : Content) (s : ℕ) (r : Record) → stream-of (sent-at h s r) ≡ passed (slots (slots-of h) s (streams-in h)) (stream-of r)
 seen-sent-at h s r = go (decMem ℕ-discrete (r .id) (ids-at h s))
   where

@@ -72,6 +72,7 @@ closed-is-not-sound p fresh sound = lt-irrefl 0 (subst (λ (h : Content). 1 ≤ 
 pub in-limit : (limit n : ℕ) → ((((1 ≤ n) × (n ≤ limit)) → ⊥) → ⊥) → (1 ≤ n) × (n ≤ limit)
 in-limit limit n not-out = Dec·not-not (Dec·and (decLe 1 n) (decLe n limit)) .0 not-out
 
+-- numbers that open does not refuse are in range
 pub open-in-range : (s : Setting) → answer-of (open-refusals s) ≡ 0 → NumbersInRange s
 unfolding AllNumbered AllPass
 open-in-range s none =

@@ -20,6 +20,7 @@ above : (m n : ℕ) → (m < n → ⊥) → n ≤ m
 above m n not-less = omega arith
 
 module _ {p : Planner} {start : ℕ} (test : IsSoundStart p start) where
+  -- where the test of soundness gives 0, round answers 5, whatever the buffer
   pub no-sound-start : start ≡ 0 → (buffer : List ℕ) → 5 ≡ answer-of (round-refusals p buffer)
   no-sound-start zero buffer = first-is-answer (here (test .unsound zero))
 
@@ -28,6 +29,7 @@ module _ {p : Planner} {start : ℕ} (test : IsSoundStart p start) where
     passes-5 not-sound = not-sound (test .sound some)
 
     module _ (buffer : List ℕ) where
+      -- where it gives a start, and the buffer has fewer than B places, round answers 16
       pub too-short : length buffer < p .slots → 16 ≡ answer-of (round-refusals p buffer)
       too-short short = first-is-answer (later passes-5 (here short))
 
@@ -35,11 +37,13 @@ module _ {p : Planner} {start : ℕ} (test : IsSoundStart p start) where
         not-short : length buffer < p .slots → ⊥
         not-short short = lt-irrefl (length buffer) (omega (arith, short, long))
 
+        -- with B places or more, and a start after 1,000,000,000, it answers 17 ..
         pub too-late : 1_000_000_000 < start → 17 ≡ answer-of (round-refusals p buffer)
         too-late late =
             first-is-answer (later passes-5 (later not-short
             (here (starts-late-iff p (test .sound some) start (test .start some) .1 late))))
 
+        -- .. and with a start at 1,000,000,000 or before, 0
         pub round-passes : start ≤ 1_000_000_000 → 0 ≡ answer-of (round-refusals p buffer)
         round-passes early =
             first-is-answer (later passes-5 (later not-short
@@ -68,16 +72,19 @@ module _ {p : Planner} {start : ℕ} (test : IsSoundStart p start) where
           positive : (n : ℕ) → (n ≡ 0 → ⊥) → 1 ≤ n
           positive n other = omega arith
 
+      -- where the answer is 0 the planner is sound and the start its lazy start, so that the slots can be chosen
       pub can-choose : CanChoose p start
       can-choose = record { sound = is-sound; start = test .start found }
 
       early : start ≤ 1_000_000_000
       early = above 1_000_000_000 start (λ late. held-is-not-late p buffer (sym is ∙ passed) (starts-late-iff p is-sound start (test .start found) .1 late))
 
+      -- where the answer is 0 the buffer has B places or more
       pub buffer-long : p .slots ≤ length buffer
       buffer-long = above (length buffer) (p .slots) (after-16 .0)
 
       module _ {chosen : Chosen} (is-chosen : IsChosen (content p) start chosen × AreFound (p .table) (p .queue) chosen) where
+        -- where the answer is 0 the slots that were chosen can be served: the start is not late either
         pub can-serve-all : CanServeAll p start chosen
         can-serve-all = record { can-choose = can-choose; by-last = early; is-chosen = is-chosen .0; are-found = is-chosen .1 }
 

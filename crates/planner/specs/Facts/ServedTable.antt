@@ -105,6 +105,7 @@ module _ (h : Content) (sound : ContentSound h) (s : ℕ) (lazy : IsStart h s) w
   choice : IsChoice (slots-of h) s (streams-in h) (slots (slots-of h) s (streams-in h))
   choice = round-choice (slots-of h) (now-of h) (streams-in h) (content-ready h sound) (sound .in-range .slots .0) (cap-of h) s s lazy (omega arith)
 
+  -- every unserved packet is due after the lazy start
   pub due-after-start : DueAfter s (streams-in h)
   due-after-start =
       fits-due-after (slots-of h) s (streams-in h) (all-formed h sound) (lazy-fits (slots-of h) (cap-of h) (streams-in h) (sound .in-range .slots .0) s lazy)
@@ -144,6 +145,7 @@ module _ (h : Content) (sound : ContentSound h) (s : ℕ) (lazy : IsStart h s) w
   abbrev InBoundsAt : Record → Type 0
   InBoundsAt r = ((s + 1 ≤ due-of r) × (due-of r ≤ s + 480)) × (r .period ≤ 240)
 
+  -- with the first k slots served each record is due at s + 1 to s + 480, and its period is at most 240
   pub served-bounds : (k : ℕ) (y : Record) → List·Mem y (served-to k) → InBoundsAt y
   served-bounds k y m =
       all-map InBoundsAt (λ z. ×-prop (×-prop le-prop le-prop) le-prop) (sent-in (take k (ids-at h s))) (h .table) each y

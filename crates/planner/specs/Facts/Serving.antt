@@ -57,6 +57,7 @@ module _ {p : Planner} {s : ℕ} {chosen : Chosen} (can : CanServeAll p s chosen
   abbrev lazy : IsStart h s
   lazy = can .can-choose .start
 
+  -- before the first of the chosen the table is as it was, and no period is noted
   pub none-served : length (p .table .streams) ≡ 64 → {periods : List ℕ} → length periods ≡ 64 → Serving p s 0 (p .table .streams) periods
   unfolding serve-all
   none-served long long-periods =
@@ -68,6 +69,7 @@ module _ {p : Planner} {s : ℕ} {chosen : Chosen} (can : CanServeAll p s chosen
         long-periods = long-periods;
       }
 
+  -- at most 64 ids are chosen
   pub chosen-below : chosen .n ≤ 64
   chosen-below = omega (arith, can .is-chosen .few, sound .in-range .slots)
 
@@ -104,6 +106,7 @@ module _ {p : Planner} {s : ℕ} {chosen : Chosen} (can : CanServeAll p s chosen
     holds : table .count ≤ length streams
     holds = omega (arith, serving .long, can .can-choose .sound .count)
 
+    -- the row of each of the chosen is below 64
     pub row-below : row < 64
     row-below = omega (arith, at .in-table, can .can-choose .sound .count)
 
@@ -176,6 +179,7 @@ module _ {p : Planner} {s : ℕ} {chosen : Chosen} (can : CanServeAll p s chosen
             subst⁻¹ (λ (i : ℕ). Has (first-passed h s i) (getD (ids-at h s) i 0) (getD periods-next i 0)) same
             (x, there, its-number ∙ turn k more, sym (getD-set-same periods k (x .period) 0 (omega (arith, serving .long-periods, chosen-below))))
 
+    -- with the record in its row at the next packet and its period noted, one more of the chosen is served
     pub one-more-served : {r : Record} → r ≡ sent (getD streams row no-record)
         → Serving p s (k + 1) (set streams row r) periods-next
     one-more-served is = subst⁻¹ (λ (y : Record). Serving p s (k + 1) (set streams row y) periods-next) is one-more
@@ -207,6 +211,7 @@ module _ {p : Planner} {s : ℕ} {chosen : Chosen} (can : CanServeAll p s chosen
         (subst⁻¹ (λ (es : List Entry). Files es (first-passed h s (k + 1))) (next-moved k more)
         (files-served h sound s lazy (can .by-last) (moved-to k) k (within k more) earlier x m number))
 
+    -- when all of the chosen are served, their entries can be moved in the queue by the periods noted
     pub can-move-all : CanMoveAll (p .queue) served periods (chosen .n)
     can-move-all =
         record {

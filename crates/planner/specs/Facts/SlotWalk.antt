@@ -20,7 +20,7 @@ use Rattle.queue.specs.InterfaceLaws.{InOrder, before-prop, in-order-unique}
 use Rattle.planner.specs.Sound.{entry-of, Files}
 
 -- Whether an entry is released by s.
-released : (s : ℕ) (e : Entry) → Dec (e .release ≤ s)
+pub released : (s : ℕ) (e : Entry) → Dec (e .release ≤ s)
 released s e = decLe (e .release) s
 
 -- The ids of those of some entries that are released by s.
@@ -100,6 +100,7 @@ module _ (s : ℕ) where
       ∙ ap (λ (r : List Entry). released-ids s (take i es) ++ map (λ (a : Entry). a .id) r)
       (if-pos (released s (getD es i e)) early (getD es i e ∷ []) [])
 
+  -- an entry that is released after s adds no id
   pub one-more-skipped : (es : List Entry) (i : ℕ) (e : Entry) → i < length es → (getD es i e .release ≤ s → ⊥)
       → released-ids s (take (suc i) es) ≡ released-ids s (take i es)
   unfolding released-ids

@@ -15,15 +15,19 @@ use Rattle.planner.specs.Facts.Table.{ascending-is-table}
 use Rattle.planner.specs.declared.Planner.{Planner}
 
 module _ (h : Content) (sound : ContentSound h) where
+  -- every stream of a sound planner is well formed ..
   pub all-formed : AllWellFormed (streams-in h)
   all-formed = all-streams WellFormed well-formed-prop (h .table) (λ r m. sound .in-range .records .each r m .deadline)
 
+  -- .. and its unserved packet is due after now
   pub due-after-now : DueAfter (now-of h) (streams-in h)
   due-after-now = all-streams (λ (s : Stream). now-of h < due s) (λ s. le-prop) (h .table) (sound .near .due-after)
 
+  -- everything fits at now: h(t) is at most B × (t - now) for every t, the difference cut off at 0
   pub fits-now : Fits (slots-of h) (now-of h) (streams-in h)
   fits-now = start-rule-fits (slots-of h) (now-of h) (streams-in h) all-formed (sound .start-rule) due-after-now
 
+  -- the streams of a sound planner are a table: well formed, and no number twice
   pub content-table : IsTable (streams-in h)
   content-table = ascending-is-table (h .table) all-formed (sound .in-range .records .ascending)
 

@@ -37,9 +37,11 @@ module _ {table : Table} (can : CanCompare table) (long : length (table .streams
   held : (k : ℕ) → k < table .count → List·Mem (record-at table k) (records-of table)
   held = record-at-mem table fits
 
+  -- the due times of a table that can be compared can be read as a column: none is above 2,000,000,000 ..
   pub can-read-dues : CanRead Due table
   can-read-dues = record { count = can .count; small = λ k below. can .dues (record-at table k) (held k below) }
 
+  -- .. and so can the releases
   pub can-read-releases : CanRead Release table
   can-read-releases = record { count = can .count; small = λ k below. omega (arith, can .dues (record-at table k) (held k below)) }
 
@@ -87,6 +89,7 @@ module _ {table : Table} (can : CanCompare table) (long : length (table .streams
 pub no-start : (p : Planner) → (Sound p → ⊥) → IsSoundStart p 0
 no-start p not-sound = record { unsound = λ _. not-sound; sound = λ some. absurd (lt-irrefl 0 some); start = λ some. absurd (lt-irrefl 0 some) }
 
+-- the table of a sound planner is in range, and near now
 pub table-in-range : (p : Planner) → Sound p → TableInRange (p .frame) (p .last + 1) (p .table)
 table-in-range p sound = record { count = sound .count; records = sound .content-sound .in-range .records; near = sound .content-sound .near }
 
@@ -96,6 +99,7 @@ module _ (p : Planner) (numbers : NumbersInRange (setting-of (content p))) (rang
       let each = range .records .each s m in
       omega (arith, range .near .released s m, each .period, each .deadline)
 
+  -- with numbers and table in range, the queue can be compared with the table ..
   pub can-compare : CanCompare (p .table)
   can-compare =
       record {
@@ -106,6 +110,7 @@ module _ (p : Planner) (numbers : NumbersInRange (setting-of (content p))) (rang
         span = λ s t m n. omega (arith, late s m, range .near .due-after t n);
       }
 
+  -- .. and the demand rule can be tested on it
   pub can-test-demand : CanTestDemand (slots-of (content p)) (p .frame) (p .table)
   can-test-demand = record { count = range .count; slots = numbers .slots; frame = numbers .frame; records = range .records .each }
 

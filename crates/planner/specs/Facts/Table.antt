@@ -34,6 +34,7 @@ put-by-id-perm x (y ∷ ys) = go (decLt (x .id) (y .id)) (put-by-id-perm x ys)
     go (yes first) below = Perm·refl (x ∷ y ∷ ys)
     go (no later) below = Perm·trans (Perm·cons y below) (Perm·swap x y ys)
 
+-- the records with a new one put in are the new one and those that were there
 pub in-put-by-id : (x : Record) (rs : List Record) (s : Record) → List·Mem s (put-by-id x rs) ↔ ((s ≡ x) ∨₁ List·Mem s rs)
 in-put-by-id x rs s = Iff·trans (Perm·mem-iff (put-by-id-perm x rs)) mem-cons
 
@@ -49,6 +50,7 @@ put-all-seen P prop x rs here all s m =
     Or·elim (prop s) (eq-or-mem-of-mem-cons (Perm·mem-iff (as-streams-put x rs) .0 m)) (λ same. subst⁻¹ P same here) (all s)
 
 module _ (x : Record) (rs : List Record) where
+  -- with a well-formed stream of a new id put in, a table is still a table ..
   pub put-is-table : WellFormed (stream-of x) → (HasId (x .id) rs → ⊥) → IsTable (as-streams rs) → IsTable (as-streams (put-by-id x rs))
   put-is-table formed new table =
       let others : List·Mem (x .id) (map (λ (s : Stream). s .number) (as-streams rs)) → ⊥ = λ m. new (subst (List·Mem (x .id)) (numbers rs) m) in
@@ -57,6 +59,7 @@ module _ (x : Record) (rs : List Record) where
         differ = Perm·nodup (Perm·symm (Perm·map (λ (s : Stream). s .number) (as-streams-put x rs))) (nodup-cons .1 (others, table .differ));
       }
 
+  -- .. and where the new stream is due after now as the others are, all are
   pub put-due-after : (now : ℕ) → now < due-of x → DueAfter now (as-streams rs) → DueAfter now (as-streams (put-by-id x rs))
   put-due-after now later others = put-all-seen (λ s. now < due s) (λ s. le-prop) x rs later others
 
@@ -66,6 +69,7 @@ perm-length _ _ (List·Permᴰ·cons {l₁ = l₁} {l₂ = l₂} e d) = ap suc (
 perm-length _ _ (List·Permᴰ·swap e e′) = refl
 perm-length _ _ (List·Permᴰ·trans {l₁ = l₁} {l₂ = l₂} {l₃ = l₃} d d′) = perm-length l₁ l₂ d ∙ perm-length l₂ l₃ d′
 
+-- with a record put in there is one more
 pub put-by-id-length : (x : Record) (rs : List Record) → length (put-by-id x rs) ≡ length rs + 1
 put-by-id-length x rs =
     ∥∥₁-elim (put-by-id-perm x rs) (hedberg ℕ-discrete (length (put-by-id x rs)) (length rs + 1)) (λ d. omega (arith, perm-length (put-by-id x rs) (x ∷ rs) d))
@@ -110,10 +114,12 @@ module _ (id : ℕ) (rs : List Record) where
   unfolding without-id
   in-without-id s = mem-filter (λ (a : Record). Dec·not (ℕ-discrete (a .id) id))
 
+  -- without the record of an id, ids still ascend ..
   pub without-id-ascending : Ascending rs → Ascending (without-id id rs)
   unfolding without-id
   without-id-ascending = Pairwise·filter (λ (a : Record). Dec·not (ℕ-discrete (a .id) id))
 
+  -- .. and there are no more records than before
   pub without-id-length : length (without-id id rs) ≤ length rs
   unfolding without-id
   without-id-length = omega (arith, filter-halves (λ (a : Record). ℕ-discrete (a .id) id) rs)
@@ -127,5 +133,6 @@ module _ (id : ℕ) (rs : List Record) where
   demand-without t =
       rw (count-by-demand (as-streams (without-id id rs)) t, count-by-demand (as-streams rs) t) at (count-without (λ (s : Stream). s .deadline) t)
 
+  -- h(t) is no larger without the record of an id, for any time t
   pub future-without : (t : ℕ) → future (as-streams (without-id id rs)) t ≤ future (as-streams rs) t
   future-without t = rw (count-by-future (as-streams (without-id id rs)) t, count-by-future (as-streams rs) t) at (count-without due t)

@@ -51,14 +51,17 @@ module _ (b F : ℕ) (table : Table) (can : CanTestDemand b F table) where
   }
 
   module _ {periods dues releases : List ℕ} {sums : Sums} {t : ℕ} (so-far : TestedTo b F table periods dues releases sums t) where
+    -- below F the sums that stand at t can be carried to t + 1
     pub can-carry : t < F → CanCarry table periods dues releases (t + 1) sums
     can-carry low =
         let back : t + 1 - 1 ≡ t = omega arith in
         record { has = so-far .has; formed = well-formed; within = (omega arith, omega arith); sums = rw back (so-far .at) }
 
+    -- the demand rule kept up to a length t from 1 on with W(t) at most b × t: t is a busy length, and the rule holds
     pub busy-found : 1 ≤ t → sums .most ≤ b * t → IsBusyLength b (streams-of table) t
     busy-found some fits = settles t (some, omega arith) (so-far .within) (so-far .kept)
 
+    -- the demand rule kept up to F: F is a busy length, and the rule holds
     pub frame-reached : F ≤ t → IsBusyLength b (streams-of table) F
     frame-reached end = go (frame-busy F (can .frame .0) b (streams-of table) well-formed periods-divide)
       where
@@ -70,6 +73,7 @@ module _ (b F : ℕ) (table : Table) (can : CanTestDemand b F table) where
         go (inr over) = absurd (lt-irrefl (b * F) (omega (arith, kept F (can .frame .0) (omega arith))))
 
     module _ {dues′ releases′ : List ℕ} {sums′ : Sums} (here : AreSums table (t + 1) dues′ releases′ sums′) where
+      -- a demand above b × (t + 1) at length t + 1: the demand rule fails, and 0 is the answer
       pub rule-fails : b * (t + 1) < sums′ .demand → IsBusyLength b (streams-of table) 0
       rule-fails over = record {
         fails = λ none rule. lt-irrefl (b * (t + 1)) (omega (arith, rule (t + 1) (omega arith)));
@@ -78,6 +82,7 @@ module _ (b F : ℕ) (table : Table) (can : CanTestDemand b F table) where
         short = omega arith;
       }
 
+      -- a demand of at most b × (t + 1) there: the demand rule is kept up to t + 1
       pub one-length-more : t < F → sums′ .demand ≤ b * (t + 1) → TestedTo b F table periods dues′ releases′ sums′ (t + 1)
       one-length-more low fits = record {
         within = omega arith;
@@ -99,13 +104,16 @@ module _ (b F : ℕ) (table : Table) (can : CanTestDemand b F table) where
     in-range : (k : ℕ) → k < table .count → RecordInRange F (record-at table k)
     in-range k low = can .records (record-at table k) (record-at-mem table table-within k low)
 
+    -- the periods can be narrowed as they are: none is above 60,000 ..
     pub can-narrow-periods : CanNarrow Period table 0
     can-narrow-periods = record { count = can .count; fits = omega arith; near = λ k low. (omega arith, omega (arith, in-range k low .period)) }
 
+    -- .. and so can the deadlines
     pub can-narrow-deadlines : CanNarrow Deadline table 0
     can-narrow-deadlines =
         record { count = can .count; fits = omega arith; near = λ k low. (omega arith, omega (arith, in-range k low .deadline, in-range k low .period)) }
 
+    -- at length 0 both sums are 0, and in each stream's place stand its D as the next deadline and 1 as the next release
     pub test-begins : {periods dues : List ℕ} → IsNarrow Period table 0 periods → length dues ≡ 64 → IsNarrow Deadline table 0 dues
         → TestedTo b F table periods dues (replicate 64 1) (record { demand = 0; most = 0 }) 0
     test-begins {periods} {dues} column sixty-four deadlines = record {

@@ -67,6 +67,7 @@ absent-by-place table id differ held =
     (λ x y. absurd x)
     (λ found. all-records (λ r. r .id ≡ id → ⊥) (λ r. ¬-prop) table differ (found .0) (found .1) (found .2))
 
+-- the place of an id that the table has is below the count
 pub found-by-place : (table : Table) (id r : ℕ) → HasId id (records-of table) → IsPlaceOf table id r → r < table .count
 found-by-place table id r held place =
     by-cases (decLt r (table .count)) (λ inside. inside) (λ outside. absurd (place .absent (omega arith) held))
@@ -82,12 +83,14 @@ held-by-place table id r place differ =
 
 -- a table whose count its places can hold
 module _ (table : Table) (held : table .count ≤ length (table .streams)) where
+  -- there are as many records as the count says
   pub records-count : length (records-of table) ≡ table .count
   records-count = length-take-le (table .count) (table .streams) held
 
   at-place : (k : ℕ) → k < table .count → row-at (records-of table) k ≡ record-at table k
   at-place k low = getD-take (table .count) (table .streams) k no-record low
 
+  -- a record put in by id goes before the first greater id, or behind the last record
   pub put-at-place : (x : Record) (r : ℕ) → IsPlaceBefore table (x .id) r → put-by-id x (records-of table) ≡ opened r x (records-of table)
   put-at-place x r place =
       let id-at : (k : ℕ) → k < table .count → row-at (records-of table) k .id ≡ record-at table k .id =
@@ -103,9 +106,11 @@ module _ (table : Table) (held : table .count ≤ length (table .streams)) where
     here : row-at (records-of table) r .id ≡ id
     here = let low = found-by-place table id r (can .held) place in ap (λ (x : Record). x .id) (at-place r low) ∙ place .found low
 
+    -- the records without a held id are those with the id's place closed
     pub without-at-place : without-id id (records-of table) ≡ closed r (records-of table)
     without-at-place = without-at id (records-of table) (can .ascending) r inside here
 
+    -- a table with the record at a held id's place at its next packet has the records with that id served
     pub serve-at-place : HasRecords (serve id (records-of table)) (record { count = table .count; streams = set (table .streams) r (sent (record-at table r)) })
     serve-at-place = record {
       records =

@@ -24,9 +24,11 @@ pub record IdsTo (rows : List Record) (i : ℕ) (values : List ℕ) : Type 0 whe
   pub ids : (k : ℕ) → k < i → getD values k 0 ≡ row-at rows k .id
   pub free : (k : ℕ) → i ≤ k → k < 64 → getD values k 0 ≡ 4_294_967_295
 
+-- with the largest number of 32 bits at all 64 places, no id is written and all are free
 pub ids-none : (rows : List Record) → IdsTo rows 0 (replicate 64 4_294_967_295)
 ids-none rows = record { long = refl; ids = below-none _; free = λ k from inside. getD-replicate 64 k 4_294_967_295 0 inside }
 
+-- with the id of row i written at place i, the ids of the first i + 1 places are written
 pub ids-more : {rows : List Record} {i : ℕ} {values : List ℕ} → IdsTo rows i values → i < 64 → IdsTo rows (i + 1) (set values i (row-at rows i .id))
 ids-more {rows} {i} {values} to inside =
     record {

@@ -24,14 +24,17 @@ use Rattle.table.specs.declared.Record.{Record}
 use Rattle.table.specs.declared.Table.{Table}
 use Rattle.table.specs.declared.lengths.Sums.{Sums}
 
+-- a due time at t adds one there ..
 pub hits-yes : (time t : ℕ) → time ≡ t → hits time t ≡ 1
 unfolding hits
 hits-yes time t same = if-pos (ℕ-discrete time t) same 1 0
 
+-- .. any other adds none ..
 pub hits-no : (time t : ℕ) → (time ≡ t → ⊥) → hits time t ≡ 0
 unfolding hits
 hits-no time t other = if-neg (ℕ-discrete time t) other 1 0
 
+-- .. so that a stream adds at most one at a length
 pub hits-few : (time t : ℕ) → hits time t ≤ 1
 hits-few time t = go (ℕ-discrete time t)
   where
@@ -39,10 +42,12 @@ hits-few time t = go (ℕ-discrete time t)
     go (yes now) = omega (arith, hits-yes time t now)
     go (no later) = omega (arith, hits-no time t later)
 
+-- a due time at t moves on by the period ..
 pub after-yes : (time t period : ℕ) → time ≡ t → after-hit time t period ≡ t + period
 unfolding after-hit
 after-yes time t period same = if-pos (ℕ-discrete time t) same (t + period) time
 
+-- .. any other stays
 pub after-no : (time t period : ℕ) → (time ≡ t → ⊥) → after-hit time t period ≡ time
 unfolding after-hit
 after-no time t period other = if-neg (ℕ-discrete time t) other (t + period) time
@@ -94,6 +99,7 @@ module _ (p : ℕ) (positive : 1 ≤ p) (d t : ℕ) where
       go (yes now) = after-yes (next-after p d t) (t + 1) p now ∙ hit-goes-on now
       go (no later) = after-no (next-after p d t) (t + 1) p later ∙ missed-stays later
 
+-- the first n due times add at most n at a length
 pub hits-before-few : (times : List ℕ) (t n : ℕ) → hits-before times t n ≤ n
 unfolding hits-before
 hits-before-few times t zero = omega arith
@@ -120,12 +126,14 @@ pub record GoneOn (periods : List ℕ) (n t : ℕ) (times₀ times : List ℕ) (
   pub left : (k : ℕ) → i ≤ k → getD times k 0 ≡ getD times₀ k 0
   pub counted : sum ≡ hits-before times₀ t i
 
+-- before the first time is looked at, all are as they were and none is counted
 pub none-gone-on : (periods : List ℕ) (n t : ℕ) (times : List ℕ) → GoneOn periods n t times times 0 0
 unfolding hits-before
 none-gone-on periods n t times =
     record { within = omega arith; size = refl; gone-on = below-none _; left = λ k high. refl; counted = refl }
 
 module _ {periods : List ℕ} {n t : ℕ} {times₀ times : List ℕ} {sum i : ℕ} (so-far : GoneOn periods n t times₀ times sum i) where
+  -- with time i moved on, and counted if it was at t, the first i + 1 have gone on to t
   pub one-more-gone-on : i < n → n ≤ length times₀ → (hit time : ℕ) → hit ≡ hits (getD times i 0) t
       → time ≡ after-hit (getD times i 0) t (getD periods i 0) → GoneOn periods n t times₀ (set times i time) (sum + hit) (i + 1)
   unfolding hits-before
@@ -140,6 +148,7 @@ module _ {periods : List ℕ} {n t : ℕ} {times₀ times : List ℕ} {sum i : �
         counted = rw (add-one i) (omega (arith, ap (λ (x : ℕ). hits x t) old));
       }
 
+  -- when all n have gone on, the times are one length further, at t, and the sum is how many of them were there
   pub all-gone-on : n ≤ i → IsAdvance periods times₀ n t times sum
   all-gone-on all-of-them =
       let e : i ≡ n = omega arith in
@@ -151,6 +160,7 @@ module _ {periods : List ℕ} {n t : ℕ} {times₀ times : List ℕ} {sum i : �
       }
 
 module _ {table : Table} {periods : List ℕ} (has : HasPeriods table periods) where
+  -- the next due times of a table with its periods in range can go on to any length up to 60,000
   pub can-advance : {first : Stream → ℕ} {u t : ℕ} {times : List ℕ} → AreNext first table u times → t ≤ 60_000 → CanAdvance periods times (table .count) t
   can-advance next near = record { count = has .count; room = next .room; short = λ k low. omega (arith, has .column k low, has .range k low); near = near }
 

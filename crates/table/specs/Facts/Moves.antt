@@ -64,6 +64,7 @@ pub record Closing (old : List Record) (place last : ℕ) (new : List Record) (i
   pub moved : (j : ℕ) → j < i → place ≤ j → row-at new j ≡ row-at old (suc j)
   pub rest : (j : ℕ) → i ≤ j → row-at new j ≡ row-at old j
 
+-- before a row is moved all 64 are as they were, and the place to be closed is the next to be written
 pub none-closed : (old : List Record) (place last : ℕ) → place ≤ last → length old ≡ 64 → Closing old place last old place
 none-closed old place last within size = record {
   from = omega arith;
@@ -74,6 +75,7 @@ none-closed old place last within size = record {
   rest = λ j high. refl;
 }
 
+-- with row i + 1 copied to place i, one row more has moved down
 pub one-more-closed : {old : List Record} {place last : ℕ} {new : List Record} {i : ℕ} → Closing old place last new i → i < last → last < 64
     → Closing old place last (set new i (row-at new (i + 1))) (i + 1)
 one-more-closed {old} {place} {last} {new} {i} so-far more room =
@@ -94,6 +96,7 @@ one-more-closed {old} {place} {last} {new} {i} so-far more room =
       rest = λ j high. other j (λ same. lt-irrefl j (omega arith)) ∙ so-far .rest j (omega arith);
     }
 
+-- when all later rows have moved down, the records are those with the place closed, whatever is put at the last place
 pub all-closed : (table : Table) (place : ℕ) → CanClose table place → length (table .streams) ≡ 64
     → {new : List Record} {last i : ℕ} → last ≡ table .count - 1 → last ≤ i → Closing (table .streams) place last new i → (x : Record)
     → HasRecords (closed place (records-of table)) (record { count = last; streams = set new last x })
@@ -118,6 +121,7 @@ pub record Opening (old : List Record) (place count : ℕ) (new : List Record) (
   pub rest : (j : ℕ) → j < i → row-at new j ≡ row-at old j
   pub moved : (j : ℕ) → i ≤ j → j < count → row-at new (suc j) ≡ row-at old j
 
+-- before a row is moved all 64 are as they were, and the place behind the last record is free to be written
 pub none-opened : (old : List Record) (place count : ℕ) → place ≤ count → length old ≡ 64 → Opening old place count old count
 none-opened old place count within size = record {
   from = within;
@@ -127,6 +131,7 @@ none-opened old place count within size = record {
   moved = λ j high low. absurd (lt-irrefl j (omega arith));
 }
 
+-- with row i - 1 copied to place i, one row more has moved up, and place i - 1 is free to be written
 pub one-more-opened : {old : List Record} {place count : ℕ} {new : List Record} {i : ℕ} → Opening old place count new i → place < i → count < 64
     → Opening old place count (set new i (row-at new (i - 1))) (i - 1)
 one-more-opened {old} {place} {count} {new} {i} so-far more room =
@@ -149,6 +154,7 @@ one-more-opened {old} {place} {count} {new} {i} so-far more room =
           (λ now. first-moved j (omega arith, omega arith));
     }
 
+-- when the rows from the place on have moved up and a record is written there, the records are those with it put in at that place
 pub all-opened : (table : Table) (place : ℕ) → CanOpen table place → length (table .streams) ≡ 64 → {new : List Record} {i : ℕ} → i ≤ place
     → Opening (table .streams) place (table .count) new i → (x : Record)
     → HasRecords (opened place x (records-of table)) (record { count = table .count + 1; streams = set new place x })

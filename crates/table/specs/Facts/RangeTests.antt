@@ -27,6 +27,7 @@ pub record Followed (frame now : ℕ) (rows : List Record) (n before : ℕ) : Ty
   pub last : before ≡ id-before rows n
   pub each : (k : ℕ) → k < n → CanFollow frame now (id-before rows k) (row-at rows k)
 
+-- before the first record none has been looked at, and the id to stand behind is 0
 pub none-followed : (frame now : ℕ) (rows : List Record) → Followed frame now rows 0 0
 unfolding id-before
 none-followed frame now rows = record { last = refl; each = below-none _ }
@@ -35,6 +36,7 @@ id-before-next : (rows : List Record) (n : ℕ) → id-before rows (n + 1) ≡ r
 unfolding id-before
 id-before-next rows n = rw (add-one n) refl
 
+-- a record that can follow the n before it makes n + 1 that follow one another, its id being the last
 pub one-more-followed : (frame now : ℕ) (rows : List Record) (n before : ℕ) → Followed frame now rows n before → CanFollow frame now before (row-at rows n)
     → Followed frame now rows (n + 1) (row-at rows n .id)
 one-more-followed frame now rows n before so-far here = record {
@@ -56,6 +58,7 @@ rise rows n step j (suc k) order low = go (decLt j k) (rise rows n step j k)
         let same : k ≡ j = omega arith in
         subst (λ p. row-at rows p .id < row-at rows (suc k) .id) same (step (suc k) low)
 
+-- a record is in range in one way only
 pub record-in-range-prop : (frame : ℕ) (r : Record) → IsProp (RecordInRange frame r)
 record-in-range-prop frame r p q = λ i. record {
   id = ×-prop le-prop le-prop (p .id) (q .id) i;
@@ -64,6 +67,7 @@ record-in-range-prop frame r p q = λ i. record {
   deadline = ×-prop le-prop le-prop (p .deadline) (q .deadline) i;
 }
 
+-- a table of at most 64 records, all of which follow one another, is in range
 pub all-followed : (frame now : ℕ) (table : Table) (n before : ℕ) → table .count ≤ 64 → table .count ≤ n
     → Followed frame now (table .streams) n before → TableInRange frame now table
 all-followed frame now table n before count reached f =
@@ -89,6 +93,7 @@ unfolding id-before
 above-before frame now table within in-range zero low = in-range .records .each _ (record-at-mem table within zero low) .id .0
 above-before frame now table within in-range (suc k) low = ascending-at table within (in-range .records .ascending) k (suc k) (omega arith) low
 
+-- in a table in range the record at place n can follow the n before it
 pub next-follows : (frame now : ℕ) (table : Table) (n before : ℕ) → length (table .streams) ≡ 64 → n < table .count
     → Followed frame now (table .streams) n before → TableInRange frame now table → CanFollow frame now before (record-at table n)
 next-follows frame now table n before shape low f in-range =

@@ -43,6 +43,7 @@ module _ {b x cap T : ℕ} {table : Table} (can : CanFindStart b x cap T table) 
         let m = record-at-mem table within k below in
         (can .near .due-after (record-at table k) m, omega (arith, can .near .released (record-at table k) m, can .formed (record-at table k) m))
 
+    -- the due times less now can be narrowed: none is before now, or more than 60,000 after it
     pub can-narrow-due : CanNarrow Due table x
     can-narrow-due =
         record { count = can .count; fits = omega arith; near = λ k below. let near = due-near k below in (omega arith, omega arith) }
@@ -50,6 +51,7 @@ module _ {b x cap T : ℕ} {table : Table} (can : CanFindStart b x cap T table) 
     period-range : (k : ℕ) → k < table .count → (1 ≤ record-at table k .period) × (record-at table k .period ≤ 240)
     period-range k below = let formed = can .formed (record-at table k) (record-at-mem table within k below) in (omega arith, formed .1)
 
+    -- the periods can be narrowed as they are: none is above 60,000
     pub can-narrow-period : CanNarrow Period table 0
     can-narrow-period = record { count = can .count; fits = omega arith; near = λ k below. (omega arith, omega (arith, period-range k below)) }
 

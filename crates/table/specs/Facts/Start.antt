@@ -17,10 +17,12 @@ use Rattle.rules.specs.Facts.LazyStart.{least-of, latest, latest-some, lazy-sta
 use Rattle.table.specs.Lengths.{IsNextStart}
 use Rattle.table.specs.Start.{IsLeastOf}
 
+-- of one value, that value is the least
 pub least-one : {values : List ℕ} {m : ℕ} → m ≡ getD values 0 0 → IsLeastOf values 1 m
 least-one e =
     record { at-most = λ k below. let first : k ≡ 0 = omega arith in rw first (omega arith); reached = (0, omega arith, e) }
 
+-- the lesser of the least so far and value n is the least of the first n + 1
 pub least-more : {values : List ℕ} {n m r : ℕ} → IsLeastOf values n m → r ≡ min (getD values n 0) m → IsLeastOf values (n + 1) r
 least-more {values} {n} {m} {r} least e =
     record { at-most = λ k below. at-most k below (decLt k n); reached = reached (decLe m (getD values n 0)) }
@@ -33,6 +35,7 @@ least-more {values} {n} {m} {r} least e =
     reached (yes le) = (least .reached .0, omega arith, omega arith)
     reached (no gt) = (n, omega arith, omega arith)
 
+-- when as many values as there are have been looked at, the least so far is the least of all
 pub least-all : {values : List ℕ} {n count m : ℕ} → n ≡ count → IsLeastOf values n m → IsLeastOf values count m
 least-all {values} {n} {count} {m} e least = subst (λ (k : ℕ). IsLeastOf values k m) e least
 
@@ -42,6 +45,7 @@ pub record Looked (b x cap : ℕ) (ss : List Stream) (first t start : ℕ) : Typ
   pub least : start ≡ least-of (latest b cap ss) cap first (t - first)
   pub on : x ≤ start
 
+-- with no length looked at yet the start found is the cap, if that is now or later
 pub looked-none : (b x cap : ℕ) (ss : List Stream) (first : ℕ) → x ≤ cap → Looked b x cap ss first first cap
 unfolding least-of
 looked-none b x cap ss first low =

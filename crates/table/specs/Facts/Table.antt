@@ -40,14 +40,17 @@ pub one-row-more : (rows : List Record) (n : ℕ) → n < length rows
     → as-streams (take (suc n) rows) ≡ as-streams (take n rows) ++ (stream-of (row-at rows n) ∷ [])
 one-row-more rows n within = rw (take-suc rows n no-record within, map-append stream-of (take n rows) (row-at rows n ∷ [])) refl
 
+-- the record at a place below the count is one of the table's ..
 pub record-at-mem : (table : Table) → table .count ≤ length (table .streams) → (k : ℕ) → k < table .count
     → List·Mem (record-at table k) (records-of table)
 record-at-mem table within k low = row-mem (table .streams) (table .count) k within low
 
+-- .. and the stream there is one of those that the rules see
 pub stream-at-mem : (table : Table) → table .count ≤ length (table .streams) → (k : ℕ) → k < table .count
     → List·Mem (stream-at table k) (streams-of table)
 stream-at-mem table within k low = mem-map-of-mem stream-of (record-at-mem table within k low)
 
+-- what holds of the record at every place below the count holds of every record
 pub all-records : (P : Record → Type 0) → ((r : Record) → IsProp (P r)) → (table : Table) → ((k : ℕ) → k < table .count → P (record-at table k))
     → (r : Record) → List·Mem r (records-of table) → P r
 all-records P prop table all = all-rows P prop (table .streams) (table .count) all
@@ -72,10 +75,12 @@ rows-ascend-from (x ∷ xs) (suc n) up =
     Pairwise·cons (all-rows (λ r. x .id < r .id) (λ r. le-prop) xs n (λ k low. up 0 (suc k) (omega arith) (omega arith)))
     (rows-ascend-from xs n (λ j k order low. up (suc j) (suc k) (omega arith) (omega arith)))
 
+-- where ids rise along the records, the id at a later place is greater ..
 pub ascending-at : (table : Table) → table .count ≤ length (table .streams) → Ascending (records-of table)
     → (j k : ℕ) → j < k → k < table .count → record-at table j .id < record-at table k .id
 ascending-at table within up j k order low = rows-ascend-at (table .streams) (table .count) j k within up order low
 
+-- .. and ids that are greater at every later place rise along the records
 pub ascending-from : (table : Table) → ((j k : ℕ) → j < k → k < table .count → record-at table j .id < record-at table k .id)
     → Ascending (records-of table)
 ascending-from table up = rows-ascend-from (table .streams) (table .count) up

@@ -9,9 +9,11 @@ use Rattle.places.specs.Order.{Entry}
 use Rattle.places.specs.Entries.{Filed, InBounds}
 use Rattle.places.specs.Soundness.{Full, PlacesSound}
 
+-- whether some entry of a list has an id can be decided
 pub decide-filed : (id : ℕ) (es : List Entry) → Dec (Filed id es)
 decide-filed id es = decidableBEx (λ (e : Entry). ℕ-discrete (e .id) id) es
 
+-- whether keys, releases and span of some entries are within the bounds can be decided
 pub decide-in-bounds : (es : List Entry) → Dec (InBounds es)
 decide-in-bounds es =
     map-dec
@@ -27,6 +29,7 @@ decide-full ids P decide =
     map-dec (λ all i holds. all i (holds .0) (holds .1)) (λ all i below some. all i (below, some))
     (decide-below (λ i. 1 ≤ ids i → P i) (λ i. decide-implies (decLe 1 (ids i)) (decide i)) 64)
 
+-- whether ids, keys and releases at 64 places are sound can be decided
 pub decide-places-sound : (ids keys releases : ℕ → ℕ) → Dec (PlacesSound ids keys releases)
 decide-places-sound ids keys releases =
     map-dec

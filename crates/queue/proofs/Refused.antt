@@ -38,6 +38,7 @@ not-zero n some zero = omega arith
 
 -- a sound queue passes 5, and any other gets it
 module _ (q : Queue) where
+  -- with a queue that is not sound the answer is 5, whatever refusals follow
   pub refuses-5 : (rs : List Refusal) → (Sound q → ⊥) → 5 ≡ answer-of (unsound q ∷ rs)
   refuses-5 rs not-sound = sym (answer-first (unsound q) rs not-sound)
 
@@ -50,6 +51,7 @@ module _ (q : Queue) where
       (Dec·not-not (decide-sound q) .0 (w .0), w .1)
 
   module _ (sound : Sound q) (id : ℕ) where
+    -- with a sound queue and an id that is not filed the answer is 24, whatever refusals follow
     pub refuses-24 : (rs : List Refusal) → (Filed id (entries q) → ⊥) → 24 ≡ answer-of (unsound q ∷ not-filed id (entries q) ∷ rs)
     refuses-24 rs none = sym (passes-5 (not-filed id (entries q) ∷ rs) sound ∙ answer-first (not-filed id (entries q)) rs none)
 
@@ -72,24 +74,29 @@ unfolding answer-of
 passes-23 es within = sym (answer-later (out-of-bounds es) [] (λ out. out within))
 
 module _ (q : Queue) (id : ℕ) where
+  -- with a sound queue and a filed id delete answers 0
   pub delete-answers-0 : Sound q → Filed id (entries q) → 0 ≡ answer-of (delete-refusals q id)
   unfolding answer-of
   delete-answers-0 sound some = sym (passes-24 q sound id [] some)
 
+  -- where delete answers 0 the queue is sound and the id filed
   pub delete-can : answer-of (delete-refusals q id) ≡ 0 → CanDelete q id
   delete-can zero =
       let s = zero-sound q (not-filed id (entries q) ∷ []) zero in
       record { sound = s .0; filed = zero-filed q id [] (s .1) .0 }
 
   module _ (amount : ℕ) where
+    -- with a sound queue and a filed id move answers 23 where the entries after it would be out of bounds ..
     pub move-answers-23 : Sound q → Filed id (entries q) → (InBounds (moved id amount (entries q)) → ⊥) → 23 ≡ answer-of (move-refusals q id amount)
     move-answers-23 sound some out =
         refuses-23 (moved id amount (entries q)) out ∙ sym (passes-24 q sound id (out-of-bounds (moved id amount (entries q)) ∷ []) some)
 
+    -- .. and 0 where they are within the bounds
     pub move-answers-0 : Sound q → Filed id (entries q) → InBounds (moved id amount (entries q)) → 0 ≡ answer-of (move-refusals q id amount)
     move-answers-0 sound some within =
         passes-23 (moved id amount (entries q)) within ∙ sym (passes-24 q sound id (out-of-bounds (moved id amount (entries q)) ∷ []) some)
 
+    -- where move answers 0 the queue is sound, the id filed, and the entries after it within the bounds
     pub move-can : answer-of (move-refusals q id amount) ≡ 0 → CanMove q id amount
     move-can zero =
         let last = out-of-bounds (moved id amount (entries q)) ∷ [] in
@@ -109,6 +116,7 @@ module _ (q : Queue) (id key release : ℕ) where
   from-21 = full (entries q) ∷ from-22
 
   module _ (sound : Sound q) where
+    -- with a sound queue and an id that is not 1 to 32,767 insert answers 6
     pub insert-answers-6 : (((1 ≤ id) × (id ≤ 32767)) → ⊥) → 6 ≡ answer-of (insert-refusals q id key release)
     insert-answers-6 bad = sym (passes-5 q (bad-id id ∷ from-21) sound ∙ answer-first (bad-id id) from-21 bad)
 
@@ -116,6 +124,7 @@ module _ (q : Queue) (id key release : ℕ) where
       past-6 : answer-of (insert-refusals q id key release) ≡ answer-of from-21
       past-6 = passes-5 q (bad-id id ∷ from-21) sound ∙ answer-later (bad-id id) from-21 (λ bad. bad range)
 
+      -- with an id in range and 64 entries filed, or more, it answers 21
       pub insert-answers-21 : 64 ≤ length (entries q) → 21 ≡ answer-of (insert-refusals q id key release)
       insert-answers-21 all = sym (past-6 ∙ answer-first (full (entries q)) from-22 all)
 
@@ -123,6 +132,7 @@ module _ (q : Queue) (id key release : ℕ) where
         past-21 : answer-of (insert-refusals q id key release) ≡ answer-of from-22
         past-21 = past-6 ∙ answer-later (full (entries q)) from-22 (λ all. lt-irrefl 64 (omega arith))
 
+        -- with room for one more and the id filed, it answers 22
         pub insert-answers-22 : Filed id (entries q) → 22 ≡ answer-of (insert-refusals q id key release)
         insert-answers-22 there = sym (past-21 ∙ answer-first (filed id (entries q)) from-23 there)
 
@@ -130,12 +140,15 @@ module _ (q : Queue) (id key release : ℕ) where
           past-22 : answer-of (insert-refusals q id key release) ≡ answer-of from-23
           past-22 = past-21 ∙ answer-later (filed id (entries q)) from-23 new
 
+          -- with a new id it answers 23 where the entries with it would be out of bounds ..
           pub insert-answers-23 : (InBounds (put (triple key release id) (entries q)) → ⊥) → 23 ≡ answer-of (insert-refusals q id key release)
           insert-answers-23 out = refuses-23 (put (triple key release id) (entries q)) out ∙ sym past-22
 
+          -- .. and 0 where they are within the bounds
           pub insert-answers-0 : InBounds (put (triple key release id) (entries q)) → 0 ≡ answer-of (insert-refusals q id key release)
           insert-answers-0 within = passes-23 (put (triple key release id) (entries q)) within ∙ sym past-22
 
+  -- where insert answers 0 the queue is sound and has room, the id is in range and new, and the entries with it are within the bounds
   pub insert-can : answer-of (insert-refusals q id key release) ≡ 0 → CanInsert q (triple key release id)
   insert-can zero =
       let s = zero-sound q (bad-id id ∷ from-21) zero in

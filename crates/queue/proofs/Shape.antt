@@ -9,6 +9,7 @@ use Rattle.queue.specs.Linking.{HasShape}
 use Rattle.queue.specs.declared.Queue.{Queue}
 use Rattle.queue.proofs.Queue.{the-type}
 
+-- a queue that is handed over as values of its type has 64 ids, keys and releases, and 544 links each way
 pub has-shape : (q : Queue) (vs : List Val) → Is (row the-type) q vs → HasShape q
 has-shape q vs is =
     let fields = is .1 .1 in

@@ -4,7 +4,8 @@ pub mod Ranks
 pub mod LinkFacts
 pub mod LinkChange
 pub mod Decide
-pub mod SoundFacts
+pub mod SoundRanks
+pub mod SoundChange
 pub mod SoundnessFacts
 pub mod Soundness
 pub mod Walk

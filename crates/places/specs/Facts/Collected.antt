@@ -47,6 +47,7 @@ module _ (at : ℕ → Entry) where
           let held = subst (λ (j : ℕ). 1 ≤ at j .id) e holds in
           subst⁻¹ (λ (j : ℕ). List·Mem (at j) (collected at (suc n))) e (rw (collected-some n held) (put-new (at n) (collected at n)))
 
+  -- where ids differ from place to place, what is collected from the first n of the 64 is in order
   pub collected-in-order : Once (λ i. at i .id) → (n : ℕ) → n ≤ 64 → InOrder (collected at n)
   unfolding collected
   collected-in-order once zero within = Pairwise·nil
@@ -71,6 +72,7 @@ module _ (at : ℕ → Entry) where
       go below (yes holds) = rw (collected-some n holds, put-length) (omega arith)
       go below (no free) = rw (collected-none n (omega arith)) (omega arith)
 
+  -- with one of the first n places free, fewer than n entries are collected from them
   pub collected-room : (n i : ℕ) → i < n → at i .id ≡ 0 → length (collected at n) < n
   collected-room (suc n) i below free = go (λ less. collected-room n i less free) (decLt i n) (decLe 1 (at n .id))
     where
@@ -81,6 +83,7 @@ module _ (at : ℕ → Entry) where
           let e : i ≡ n = omega arith in
           rw (collected-none n (subst (λ (j : ℕ). at j .id ≡ 0) e free)) (omega (arith, collected-length n))
 
+  -- with none of the first n places free, n entries are collected from them
   pub collected-full : (n : ℕ) → ((i : ℕ) → i < n → 1 ≤ at i .id) → length (collected at n) ≡ n
   unfolding collected
   collected-full zero all = refl
@@ -143,12 +146,14 @@ module _ (at at′ : ℕ → Entry) (x : ℕ) (e : Entry) (inside : x < 64) (set
     left : (i : ℕ) → 1 ≤ at′ i .id → i ≡ x → ⊥
     left i there same = lt-irrefl 0 (omega (arith, subst (λ (j : ℕ). 1 ≤ at′ j .id) same there, new-id, freed))
 
+    -- the ids that are left still differ from place to place
     pub taken-once : Once (λ i. at′ i .id)
     taken-once i j li lj there same =
         let a = left i there in
         let b : j ≡ x → ⊥ = left j (rw same at there) in
         once i j li lj (rw (same-id i a) at there) (sym (same-id i a) ∙ (same ∙ same-id j b))
 
+    -- and what is collected is as before, without the id that stood there
     pub taken-collected : collected at′ 64 ≡ without (at x .id) (collected at 64)
     unfolding without
     taken-collected =

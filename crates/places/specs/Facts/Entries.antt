@@ -14,9 +14,11 @@ use Rattle.places.specs.Entries.{put}
 use Rattle.basics.specs.Facts.Sorted.{sorted-unique}
 use Rattle.basics.specs.Facts.Lexicographic.{then-asym, then-trans, then-prop, then-total}
 
+-- entries with the same key, release and id are one
 pub entry-path : (a b : Entry) → a .key ≡ b .key → a .release ≡ b .release → a .id ≡ b .id → a ≡ b
 entry-path a b key release id = λ i. record { key = key i; release = release i; id = id i }
 
+-- whether two entries are the same can be decided
 pub entry-discrete : Discrete Entry
 entry-discrete a b = go (ℕ-discrete (a .key) (b .key)) (ℕ-discrete (a .release) (b .release)) (ℕ-discrete (a .id) (b .id))
   where
@@ -26,6 +28,7 @@ entry-discrete a b = go (ℕ-discrete (a .key) (b .key)) (ℕ-discrete (a .relea
     go (yes key) (yes release) (no id) = no (λ e. id (ap (λ (x : Entry). x .id) e))
     go (yes key) (yes release) (yes id) = yes (entry-path a b key release id)
 
+-- two proofs that two entries are the same are one
 pub entry-set : IsSet Entry
 entry-set = hedberg entry-discrete
 
@@ -36,6 +39,7 @@ before-asym a b = then-asym (then-asym (λ l m. omega (arith, l, m)))
 before-trans : (a b c : Entry) → Before a b → Before b c → Before a c
 before-trans a b c = then-trans (then-trans (λ l m. omega (arith, l, m)))
 
+-- two proofs that one entry comes before another are one
 pub before-prop : (a b : Entry) → IsProp (Before a b)
 before-prop a b = then-prop (then-prop le-prop)
 
@@ -58,15 +62,19 @@ put-perm e (x ∷ xs) = go (before e x) (put-perm e xs)
     go (yes first) below = Perm·refl (e ∷ x ∷ xs)
     go (no later) below = Perm·trans (Perm·cons x below) (Perm·swap e x xs)
 
+-- an entry of a list with e put in is e or was there before ..
 pub in-put : (e : Entry) (es : List Entry) (a : Entry) → List·Mem a (put e es) → (a ≡ e) ∨₁ List·Mem a es
 in-put e es a m = eq-or-mem-of-mem-cons (Perm·mem-iff (put-perm e es) .0 m)
 
+-- .. e is in that list ..
 pub put-new : (e : Entry) (es : List Entry) → List·Mem e (put e es)
 put-new e es = Perm·mem-iff (put-perm e es) .1 mem-cons-self
 
+-- .. and so is every entry that was there before
 pub put-old : (e : Entry) (es : List Entry) (a : Entry) → List·Mem a es → List·Mem a (put e es)
 put-old e es a m = Perm·mem-iff (put-perm e es) .1 (mem-cons-of-mem e m)
 
+-- an entry put in makes the list longer by one
 pub put-length : (e : Entry) (es : List Entry) → length (put e es) ≡ suc (length es)
 unfolding put
 put-length e [] = refl

@@ -38,6 +38,7 @@ ascending-once {f} ascend i j below-i below-j same = go (decLt i j) (decLt j i)
     go (no not-less) (no not-more) = omega arith
 
 module _ {filed rows : ℕ → Entry} {n : ℕ} where
+  -- the pass over the places begins at place 0, with no row marked and none counted
   pub filed-none : (met : ℕ → ℕ) → ((i : ℕ) → met i ≡ 0) → FiledTo filed rows n 0 0 met
   filed-none met none =
       record {

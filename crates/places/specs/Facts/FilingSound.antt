@@ -28,6 +28,7 @@ module _ (filed : ℕ → Entry) (ids keys releases : List ℕ) (n : ℕ) where
       }
 
   module _ (file : PlacesFile filed (row-of ids keys releases) n) where
+    -- places that hold just rows that a sound queue can file are sound
     pub places-file-sound : CanFile ids keys releases n → PlacesSound (λ i. filed i .id) (λ i. filed i .key) (λ i. filed i .release)
     places-file-sound can =
         record {

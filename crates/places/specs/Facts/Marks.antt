@@ -18,12 +18,14 @@ no-marks (suc n) zero = refl
 no-marks (suc n) (suc i) = no-marks n i
 
 module _ (met : ℕ → ℕ) where
+  -- with no place marked, the first n have 0 marks
   pub marked-none : ((i : ℕ) → met i ≡ 0) → (n : ℕ) → marked met n ≡ 0
   unfolding marked
   marked-none none zero = refl
   marked-none none (suc n) = omega (arith, none n, marked-none none n)
 
   module _ (marks : (i : ℕ) → met i ≤ 1) where
+    -- the first n places have at most n marks
     pub marked-few : (n : ℕ) → marked met n ≤ n
     unfolding marked
     marked-few zero = omega arith
@@ -40,6 +42,7 @@ module _ (met : ℕ → ℕ) where
         go here earlier (yes less) = earlier less
         go here earlier (no last) = let e : i ≡ n = omega arith in rw e here
 
+  -- with each of the first n places marked, they have n marks
   pub marked-all : (n : ℕ) → ((i : ℕ) → i < n → met i ≡ 1) → marked met n ≡ n
   unfolding marked
   marked-all zero all = refl
@@ -52,6 +55,7 @@ module _ (met met′ : ℕ → ℕ) (i : ℕ) (free : met i ≡ 0) (here : met�
   marked-before zero below = refl
   marked-before (suc n) below = omega (arith, elsewhere n (λ same. lt-irrefl n (omega (arith, same))), marked-before n (omega arith))
 
+  -- with a mark set at one of the first n places that had none, they have one mark more
   pub marked-more : (n : ℕ) → i < n → marked met′ n ≡ marked met n + 1
   unfolding marked
   marked-more (suc n) below = go (marked-more n) (decLt i n)

@@ -65,12 +65,15 @@ module _ {ids keys releases : ℕ → ℕ} where
       go (yes holds) = s .ids-in-range i (inside, holds)
       go (no free) = omega arith
 
+  -- .. at sound places each id is new where it stands: no earlier place has it ..
   pub places-new : PlacesSound ids keys releases → Below 64 (New ids)
   places-new s = once-to ids (s .once)
 
+  -- .. at sound places no entry has a key above 2,000,000,000 ..
   pub places-keys : PlacesSound ids keys releases → KeysWithin ids keys 2_000_000_000
   places-keys s i inside holds = s .keys-in-range i (inside, holds)
 
+  -- .. at sound places no entry has a release above its key ..
   pub places-released : PlacesSound ids keys releases → AllWithin ids releases keys
   places-released s i inside holds = s .released i (inside, holds)
 

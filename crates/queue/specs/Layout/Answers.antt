@@ -16,7 +16,8 @@ use Rattle.places.specs.Facts.Entries.{in-put, put-new, put-old}
 use Rattle.places.specs.Changes.{IsPlaceOf, KeyFits}
 use Rattle.queue.specs.Layout.{id-at, key-at, entry-at, Holds, entries, Sound}
 use Rattle.queue.specs.Calls.{moved}
-use Rattle.queue.specs.Layout.SoundFacts.{sound-in-bounds, fewer-in-bounds, in-without}
+use Rattle.queue.specs.Layout.SoundRanks.{sound-in-bounds}
+use Rattle.queue.specs.Layout.SoundChange.{fewer-in-bounds, in-without}
 use Rattle.queue.specs.declared.Queue.{Queue}
 use Rattle.queue.specs.Layout.Change.{place-filed, filed-place, filed-as-place}
 
@@ -28,6 +29,7 @@ pub full-if : (q : Queue) (x : ℕ) → IsPlaceOf (q .ids) 0 x → x ≡ 64 → 
 unfolding entries
 full-if q x place none = omega (arith, collected-full (entry-at q) 64 (λ i below. positive (id-at q i) (place .absent none i below)))
 
+-- with a free place found, fewer than 64 entries are filed
 pub room-if : (q : Queue) (x : ℕ) → IsPlaceOf (q .ids) 0 x → (x ≡ 64 → ⊥) → length (entries q) < 64
 unfolding entries
 room-if q x place some =
@@ -41,6 +43,7 @@ filed-if q id x some place found =
     let here = place .found inside in
     subst (λ (n : ℕ). Filed n (entries q)) here (place-filed q x (inside, rw here some))
 
+-- an id that no place has is not filed
 pub not-filed-if : (q : Queue) (id x : ℕ) → IsPlaceOf (q .ids) id x → x ≡ 64 → Filed id (entries q) → ⊥
 not-filed-if q id x place none filed = lt-irrefl 64 (omega (arith, filed-place q id x filed place .0 .0))
 
@@ -81,12 +84,15 @@ module _ (q : Queue) (sound : Sound q) where
   unfolding entries
   all-entries i below some = in-collected (entry-at q) 64 i below some
 
+  -- where the key of an entry fits beside those filed, and its release is not above it, the entries with it are within the bounds ..
   pub insert-bounds : (e : Entry) → e .release ≤ e .key → KeyFits (q .ids) (q .keys) 64 (e .key) → InBounds (put e (entries q))
   insert-bounds e = fits-in-bounds q 64 e (entries q) (sound-in-bounds q sound) of-entries (λ i below _. all-entries i below)
 
+  -- .. and where they are, its key fits beside those filed ..
   pub insert-fits : (e : Entry) → InBounds (put e (entries q)) → KeyFits (q .ids) (q .keys) 64 (e .key)
   insert-fits e = in-bounds-fits q 64 e (entries q) (sound-in-bounds q sound) of-entries (λ i below _. all-entries i below)
 
+  -- .. and its release is not above its key
   pub insert-released : (e : Entry) → InBounds (put e (entries q)) → e .release ≤ e .key
   insert-released e bounds = bounds .released e (put-new e (entries q))
 
@@ -124,11 +130,13 @@ module _ (q : Queue) (sound : Sound q) (id x amount : ℕ) (filed : Filed id (en
   filed-there : filed-as id (entries q) ≡ entry-at q x
   filed-there = filed-as-place q sound id x (filed-place q id x filed place .0) (filed-place q id x filed place .1)
 
+  -- where the moved key fits beside the keys at the other places, the entries after the move are within the bounds ..
   pub moved-bounds : KeyFits (q .ids) (q .keys) x (key-at q x + amount) → InBounds (moved id amount (entries q))
   moved-bounds fits =
       let here = filed-place q id x filed place in
       rw filed-there (move-bounds q sound id x (here .0) (here .1) (moved-on amount (entry-at q x)) (omega (arith, sound .released x (here .0))) fits)
 
+  -- .. and where they are, it fits beside them
   pub moved-fits : InBounds (moved id amount (entries q)) → KeyFits (q .ids) (q .keys) x (key-at q x + amount)
   moved-fits within =
       let here = filed-place q id x filed place in

@@ -10,7 +10,7 @@ use Rattle.places.specs.Soundness.{IsLeast}
 use Rattle.queue.specs.Layout.{id-at, key-at, release-at, next-at, prev-at, entry-at, Holds, IsNode, bucket-of-key, bucket-after, bucket-of, Sound}
 use Rattle.queue.specs.Layout.Ranks.{rank-at, low, high, rank-holds, rank-less, low-place, low-head, high-place, high-head, bucket-place, bucket-head}
 use Rattle.queue.specs.Layout.LinkFacts.{none-between}
-use Rattle.queue.specs.Layout.SoundFacts.{node-place, rank-links, sound-rank, sound-rank-once}
+use Rattle.queue.specs.Layout.SoundRanks.{node-place, rank-links, sound-rank, sound-rank-once}
 use Rattle.queue.specs.Linking.{SearchFrom, IsFirstAfter}
 use Rattle.queue.specs.declared.Queue.{Queue}
 
@@ -28,10 +28,12 @@ pub record AtNode (q : Queue) (point : Entry) (found bucket n : ℕ) : Type 0 wh
   pub in-bucket : bucket-of (key-at q) n ≡ bucket
   pub ahead : (i : ℕ) → Holds q i → Before point (entry-at q i) → bucket-of-key (key-at q i) ≡ bucket → high (rank-at q) n ≤ rank-at q i
 
+-- a place that holds an entry has a rank of 1 or more
 pub place-rank : (q : Queue) (i : ℕ) → Holds q i → 1 ≤ rank-at q i
 place-rank q i holds = rank-holds (release-at q i) (id-at q i) (holds .1)
 
 module _ (q : Queue) (sound : Sound q) (from : ℕ) (point : Entry) (start : SearchFrom q from point) where
+  -- the search begins at the bucket of the key it starts from, with nothing found and 480 buckets left
   pub at-first-bucket : (bucket : ℕ) → bucket ≡ bucket-of-key from → AtBucket q from point 64 bucket 480
   at-first-bucket bucket is =
       record {
@@ -41,6 +43,7 @@ module _ (q : Queue) (sound : Sound q) (from : ℕ) (point : Entry) (start : Sea
         ahead = λ i holds after. omega (arith, start i holds after .0);
       }
 
+  -- the bucket that the search is at is one of the 480
   pub bucket-below : (found bucket left : ℕ) → AtBucket q from point found bucket left → bucket < 480
   bucket-below found bucket left at = rw (at .is-bucket) (mod-lt (from + (480 - left)) {m = 480} (omega arith))
 
@@ -56,6 +59,7 @@ module _ (q : Queue) (sound : Sound q) (from : ℕ) (point : Entry) (start : Sea
           (none-between (rank-at q) (key-at q) (next-at q) (prev-at q) (sound-rank-once q sound) (rank-links q sound) i (holds .0) (place-rank q i holds) x node
           (bucket ∙ sym (bucket-place (key-at q) i (holds .0))) above (omega arith))
 
+  -- in a bucket the search begins at the node after the head, before which no entry of the bucket lies
   pub at-first-node : (found bucket n : ℕ) → found ≡ 64 → bucket < 480 → n ≡ next-at q (64 + bucket) → AtNode q point found bucket n
   at-first-node found bucket n unfound below is =
       let h = 64 + bucket in
@@ -70,6 +74,7 @@ module _ (q : Queue) (sound : Sound q) (from : ℕ) (point : Entry) (start : Sea
         ahead = λ i holds after same. ahead-of-next h i head holds (own ∙ sym same) (omega (arith, low-head (rank-at q) h (omega arith), place-rank q i holds));
       })
 
+  -- an entry that does not come after the point is passed, and the search is at the next node
   pub at-next-node : (found bucket n m : ℕ) → AtNode q point found bucket n → n < 64
       → (Before point (entry-at q n) → ⊥) → m ≡ next-at q n → AtNode q point found bucket m
   at-next-node found bucket n m at inside not-after is =
@@ -153,6 +158,7 @@ from-least q least point sound is i holds after = (is .at-most i (holds .0) (hol
     go (inl none) = omega (arith, sound .keys-in-range i holds)
     go (inr w) = omega (arith, sound .span i (w .0) holds (w .1, w .2), w .3)
 
+-- where the key of a point is above the least, every entry after the point has its key among the 480 from the point's on
 pub from-key : (q : Queue) (least : ℕ) (point : Entry) → Sound q → IsLeast (id-at q) (key-at q) 64 least → least < point .key → SearchFrom q (point .key) point
 from-key q least point sound is above i holds after =
     (not-before after, omega (arith, from-least q least point sound is i holds after .1))

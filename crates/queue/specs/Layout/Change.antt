@@ -18,7 +18,8 @@ use Rattle.places.specs.Changes.{IsPlaceOf}
 use Rattle.queue.specs.Layout.{id-at, key-at, release-at, entry-at, next-at, prev-at, Holds, entries, Sound}
 use Rattle.queue.specs.Layout.Ranks.{rank, rank-at, rank-holds}
 use Rattle.queue.specs.Calls.{moved, HasEntries}
-use Rattle.queue.specs.Layout.SoundFacts.{rank-links, rank-small, new-rank, put-entries, put-sound, taken-entries, taken-sound, node-below, sound-once}
+use Rattle.queue.specs.Layout.SoundRanks.{rank-links, rank-small, new-rank, node-below, sound-once}
+use Rattle.queue.specs.Layout.SoundChange.{put-entries, put-sound, taken-entries, taken-sound}
 use Rattle.queue.specs.Linking.{HasShape, IsPosition, IsNew, IsNewRank, CanPut, put-before, CanTake, taken-out, CanInsert, CanMove, CanMoveAt, IsMovedAt}
 use Rattle.queue.specs.declared.Queue.{Queue}
 
@@ -77,11 +78,13 @@ module _ (q : Queue) (e : Entry) (can : CanInsert q e) where
   pub insert-rank : (r : ℕ) → r ≡ rank (e .release) (e .id) → IsNewRank q r
   insert-rank r = new-id-rank q (can .sound) e r insert-new (can .bounds .released e (put-new e (entries q))) (can .bounds .keys e (put-new e (entries q)))
 
+  -- the free place found, the position and the node before it are in range, so the entry can be put there
   pub insert-can-put : (x n r : ℕ) → IsPlaceOf (q .ids) 0 x → IsPosition q (e .key) r n → CanPut q x n
   insert-can-put x n r place position =
       let l = rank-links q (can .sound) n (position .node) in
       (insert-place x place, node-below (rank-at q) n (position .node), node-below (rank-at q) (prev-at q n) (l .prev-is-node))
 
+  -- put there, before the position of its rank, the entry leaves the queue sound and is put where it belongs among the others
   pub insert-entries : HasShape q → (x n r : ℕ) → IsPlaceOf (q .ids) 0 x → r ≡ rank (e .release) (e .id)
       → IsPosition q (e .key) r n → HasEntries (put-before q x e n) (put e (entries q))
   insert-entries shape x n r place is position =
@@ -95,11 +98,13 @@ module _ (q : Queue) (e : Entry) (can : CanInsert q e) where
       }
 
 module _ (q : Queue) (x : ℕ) (sound : Sound q) (holds : Holds q x) where
+  -- a place that holds an entry has neighbours in range, so the entry can be taken out
   pub delete-can-take : CanTake q x
   delete-can-take =
       let l = rank-links q sound x (inl (holds .0, rank-holds (release-at q x) (id-at q x) (holds .1))) in
       (holds .0, node-below (rank-at q) (next-at q x) (l .next-is-node), node-below (rank-at q) (prev-at q x) (l .prev-is-node))
 
+  -- taken out, it leaves the queue sound, with the entries of the other ids as they stood
   pub delete-entries : HasShape q → HasEntries (taken-out q x) (without (id-at q x) (entries q))
   delete-entries shape = record { sound = taken-sound q sound shape x holds; content = taken-entries q sound shape x holds }
 
@@ -154,6 +159,7 @@ module _ (q : Queue) (amount x : ℕ) (can-at : CanMoveAt q x amount) where
   its-bounds : InBounds (put later (without id (entries q)))
   its-bounds = subst (λ (e : Entry). InBounds (put (moved-on amount e) (without id (entries q)))) move-as (can-at .can .bounds)
 
+  -- after the move the key is at most 2,000,000,000 and the release at most the key
   pub move-fits : (key-at q x + amount ≤ 2_000_000_000) × (release-at q x + amount ≤ key-at q x + amount)
   move-fits = (its-bounds .keys later (put-new later (without id (entries q))), its-bounds .released later (put-new later (without id (entries q))))
 
@@ -171,14 +177,17 @@ module _ (q : Queue) (amount x : ℕ) (can-at : CanMoveAt q x amount) where
     },
   )
 
+  -- once it is taken out, the rank that it has after the move is new
   pub move-rank : (r : ℕ) → r ≡ rank (release-at q x + amount) id → IsNewRank left r
   move-rank r = new-id-rank left (rest .sound) later r (move-new .1) (move-fits .1) (move-fits .0)
 
+  -- its own place, the position of the moved key and the node before that are in range, so it can be put there
   pub move-can-put : (n r : ℕ) → IsPosition left (key-at q x + amount) r n → CanPut left x n
   move-can-put n r position =
       let l = rank-links left (rest .sound) n (position .node) in
       (can-at .holds .0, node-below (rank-at left) n (position .node), node-below (rank-at left) (prev-at left n) (l .prev-is-node))
 
+  -- taken out and put in again at its own place, before the position of its new rank, the id is moved
   pub moved-at : (n k : ℕ) → k ≡ rank (release-at q x + amount) id → IsPosition left (key-at q x + amount) k n
       → (r : Queue) → r ≡ put-before left x later n → IsMovedAt q x amount r
   moved-at n k is-rank position r is =

@@ -46,6 +46,7 @@ decide-all-linked q =
     below x (inl place) = omega (arith, place .0)
     below x (inr head) = head .1
 
+-- whether a queue is sound can be decided, whatever its ids, keys, releases and links
 pub decide-sound : (q : Queue) → Dec (Sound q)
 decide-sound q =
     map-dec (λ w. sound-from q (w .0) (w .1)) (λ s. (sound-places q s, s .links))

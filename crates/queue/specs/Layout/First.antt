@@ -12,7 +12,7 @@ use Rattle.places.specs.Facts.Collected.{of-collected, in-collected, collected-
 use Rattle.places.specs.Facts.Entries.{InOrder, entry-set, before-prop}
 use Rattle.queue.specs.Layout.{id-at, key-at, release-at, entry-at, Holds, entries, Sound}
 use Rattle.queue.specs.Calls.{first-of, refused-find}
-use Rattle.queue.specs.Layout.SoundFacts.{sound-once}
+use Rattle.queue.specs.Layout.SoundRanks.{sound-once}
 use Rattle.queue.specs.Linking.{IsFirstAfter}
 use Rattle.queue.specs.declared.Queue.{Queue}
 use Rattle.queue.specs.declared.Found.{Found}
@@ -23,6 +23,7 @@ unfolding first-of
 first-none (no unsound) sound = absurd (unsound sound)
 first-none (yes s) sound = refl
 
+-- with a sound queue the first of some entries is found, with answer 0
 pub first-some : {q : Queue} (d : Dec (Sound q)) → Sound q → (e : Entry) (es : List Entry)
     → first-of d (e ∷ es) ≡ record { answer = 0; key = e .key; release = e .release; id = e .id }
 unfolding first-of
@@ -42,6 +43,7 @@ none-is : (es : List Entry) → ((a : Entry) → List·Mem a es → ⊥) → {q 
 none-is [] none d sound = first-none d sound
 none-is (x ∷ xs) none d sound = absurd (none x mem-cons-self)
 
+-- with a queue that is not sound nothing is found: 5 and zeros, whatever the entries
 pub unsound-find : {q : Queue} (d : Dec (Sound q)) (es : List Entry) → (Sound q → ⊥) → first-of d es ≡ refused-find 5
 unfolding first-of
 unsound-find (no unsound) es not-sound = refl
@@ -55,6 +57,7 @@ module _ (q : Queue) (sound : Sound q) (point : Entry) (x : ℕ) (is : IsFirstAf
       ∥∥₁-elim (of-collected (entry-at q) 64 a (w .0)) ∥∥₁-prop
       (λ v. ∣ (v .0, (v .1, v .2), subst (λ (e : Entry). Before point e) (v .3) (w .1), v .3) ∣₁)
 
+  -- where the search ends at a place, the first entry after the point is the one there, found with answer 0 ..
   pub after-found : x < 64 → first-of d (after point (entries q)) ≡ record { answer = 0; key = key-at q x; release = release-at q x; id = id-at q x }
   unfolding after entries
   after-found inside =
@@ -65,6 +68,7 @@ module _ (q : Queue) (sound : Sound q) (point : Entry) (x : ℕ) (is : IsFirstAf
       (λ a m earlier. ∥∥₁-elim (of-after a m) ⊥-prop
       (λ w. is .first inside (w .0) (w .1) (w .2) (subst (λ (e : Entry). Before e (entry-at q x)) (w .3) earlier))) d sound
 
+  -- .. and where it ends with 64 there is none: 25 and zeros
   pub after-none : x ≡ 64 → first-of d (after point (entries q)) ≡ refused-find 25
   after-none none = none-is (after point (entries q)) (λ a m. ∥∥₁-elim (of-after a m) ⊥-prop (λ w. is .none none (w .0) (w .1) (w .2))) d sound
 
@@ -76,5 +80,6 @@ all-after-zero q =
     (λ a m. ∥∥₁-elim (of-collected (entry-at q) 64 a m) (before-prop (triple 0 0 0) a)
     (λ w. subst⁻¹ (Before (triple 0 0 0)) (w .3) (then-zero (key-at q (w .0)) (then-zero (release-at q (w .0)) (w .2)))))
 
+-- a search that does not end with 64 ends at a place
 pub found-inside : {q : Queue} {point : Entry} {x : ℕ} → IsFirstAfter q point x → (x ≡ 64 → ⊥) → x < 64
 found-inside is some = omega (arith, is .within)

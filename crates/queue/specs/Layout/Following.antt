@@ -14,7 +14,7 @@ use Rattle.queue.specs.Layout.Ranks.{rank-at, low, rank-less, less-rank,
 use Rattle.queue.specs.Linking.{SearchFrom, IsFirstAfter, StandsAt, point-at}
 use Rattle.queue.specs.Layout.Buckets.{place-rank, AtBucket, AtNode, at-first-bucket, bucket-below, ahead-of-next}
 use Rattle.queue.specs.Layout.Buckets.{at-first-node, at-next-bucket, left-at-node, left-with-none}
-use Rattle.queue.specs.Layout.SoundFacts.{node-place, rank-links}
+use Rattle.queue.specs.Layout.SoundRanks.{node-place, rank-links}
 use Rattle.queue.specs.declared.Queue.{Queue}
 
 module _ (q : Queue) (sound : Sound q) (key n : ℕ) (stands : StandsAt q key n) where
@@ -97,9 +97,11 @@ module _ (q : Queue) (sound : Sound q) (key n : ℕ) (stands : StandsAt q key n)
     at-first : AtNode q point 64 bucket first
     at-first = at-first-node q sound key point from-here 64 bucket first refl (bucket-below q sound key point from-here 64 bucket left at) is
 
+    -- a bucket whose list is empty is passed, and the next one searched
     pub one-bucket-on : (bucket′ left′ : ℕ) → 64 ≤ first → bucket′ ≡ bucket-after bucket → left′ ≡ left - 1 → AtBucket q key point 64 bucket′ left′
     one-bucket-on bucket′ left′ end = at-next-bucket q sound key point from-here 64 64 bucket left first bucket′ left′ at at-first end some
 
+    -- the first entry of the bucket searched, if its key is above the one stood at, is what follows
     pub first-follows : first < 64 → key < key-at q first → IsFirstAfter q point first
     first-follows inside later = left-at-node q sound key point from-here 64 64 bucket left first at at-first inside (inl later)
 
@@ -117,5 +119,6 @@ module _ (q : Queue) (sound : Sound q) (key n : ℕ) (stands : StandsAt q key n)
           none = λ _ i holds after. omega (arith, at .ahead i holds after, sound .span i first holds here, its-key, at .within);
         }
 
+  -- with no bucket left to search, no entry follows
   pub none-follows : (bucket left : ℕ) → AtBucket q key point 64 bucket left → left ≤ 0 → IsFirstAfter q point 64
   none-follows bucket left at = left-with-none q sound key point from-here 64 bucket left at

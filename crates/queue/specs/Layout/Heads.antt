@@ -35,6 +35,7 @@ lone-heads-free : (i : ℕ) → i < 64 → getD lone-heads i 0 ≡ 0
 unfolding lone-heads
 lone-heads-free i below = List·getD-append (replicate 64 0) (numbers-from 64 480) 0 i below ∙ getD-replicate 64 i 0 0 below
 
+-- in the empty queue each head, 64 to 543, links to itself
 pub lone-heads-alone : (j : ℕ) → 64 ≤ j → j < 544 → getD lone-heads j 0 ≡ j
 unfolding lone-heads
 lone-heads-alone j from below =
@@ -50,6 +51,7 @@ pub record HeadsAlone (links : List ℕ) (x : ℕ) : Type 0 where
   pub free : (i : ℕ) → i < 64 → getD links i 0 ≡ 0
   pub alone : (j : ℕ) → 64 ≤ j → j < x → getD links j 0 ≡ j
 
+-- with head x set to link to itself, one head more does
 pub one-head-more : (links : List ℕ) (x : ℕ) → x < 544 → HeadsAlone links x → HeadsAlone (set links x x) (x + 1)
 one-head-more links x below heads =
     record {
@@ -100,6 +102,7 @@ module _ (q : Queue) (free : (i : ℕ) → i < 64 → id-at q i ≡ 0)
         prev-returns = ap (next-at q) back ∙ on;
       }
 
+  -- such a queue is sound and files nothing
   pub alone-empty : HasEntries q []
   unfolding entries
   alone-empty =

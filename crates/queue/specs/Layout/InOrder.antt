@@ -19,7 +19,7 @@ use Rattle.queue.specs.Layout.{id-at, key-at, release-at, entry-at, Hold
 use Rattle.queue.specs.Layout.Ranks.{low-place, low-head, bucket-place, bucket-head}
 use Rattle.queue.specs.Layout.Decide.{decide-sound}
 use Rattle.queue.specs.Layout.First.{first-some, after-found, after-none, found-inside}
-use Rattle.queue.specs.Layout.SoundFacts.{sound-once}
+use Rattle.queue.specs.Layout.SoundRanks.{sound-once}
 use Rattle.queue.specs.Layout.Walk.{head-below}
 use Rattle.queue.specs.Layout.Buckets.{place-rank}
 use Rattle.queue.specs.Calls.{first-of}
@@ -66,6 +66,7 @@ module _ (q : Queue) (sound : Sound q) (count : ℕ) (some : count ≤ length (e
   unfolding entries
   entries-at-most = collected-length (entry-at q) 64
 
+  -- at most 64 entries are filed, so those asked for are counted below 64
   pub in-room : (k : ℕ) → k < count → k < 64
   in-room k below = omega (arith, some, entries-at-most)
 
@@ -136,6 +137,7 @@ module _ (q : Queue) (sound : Sound q) (count : ℕ) (some : count ≤ length (e
       abbrev places′ : List ℕ
       places′ = set (placed .places) k x
 
+      -- with the entry found stored as the k-th, one more is met, and the walk stands at its place
       pub one-more-met : (j key′ : ℕ) → j ≡ k + 1 → key′ ≡ key-at q x → Met q count j key′ x (with-place placed k (id-at q x) x)
       one-more-met j key′ is-j is-key =
           let holds = is .found found-place .0 in

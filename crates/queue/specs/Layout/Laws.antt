@@ -14,7 +14,7 @@ use Rattle.places.specs.Facts.Entries.{InOrder, entry-set, in-put, put-new, put
 use Rattle.places.specs.Facts.Collected.{of-collected, collected-in-order, collected-length}
 use Rattle.queue.specs.Layout.{entry-at, entries, empty-queue, Sound}
 use Rattle.queue.specs.Calls.{moved, HasEntries}
-use Rattle.queue.specs.Layout.SoundFacts.{sound-once}
+use Rattle.queue.specs.Layout.SoundRanks.{sound-once}
 use Rattle.queue.specs.Layout.Change.{filed-as-only}
 use Rattle.queue.specs.Layout.Heads.{lone-heads-alone, alone-empty}
 use Rattle.queue.specs.declared.Queue.{Queue}

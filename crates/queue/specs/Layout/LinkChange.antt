@@ -120,6 +120,7 @@ module _ (ids ids′ keys keys′ next next′ prev prev′ : ℕ → ℕ) (x id
       prev-kept ids ids′ keys keys′ next′ prev′ y (prev y) (kept y node) (kept (prev y) (l .prev-is-node)) (l .prev-is-node)
       (prev-else y other (not-free y node)) (next-else (prev y) not-p (not-free (prev y) (l .prev-is-node)) ∙ l .prev-returns)
 
+  -- every node, the new one too, is linked, and ranks rise along the links
   pub put-linked : AllRankLinked ids′ keys′ next′ prev′
   put-linked y node = go (ℕ-discrete y x)
     where
@@ -184,6 +185,7 @@ module _ (ids ids′ keys keys′ next next′ prev prev′ : ℕ → ℕ) (x ke
       prev-kept ids ids′ keys keys′ next′ prev′ y (prev y) (stays y other) (stays (prev y) not-x) (l .prev-is-node)
       (prev-rest y not-n other) (next-rest (prev y) not-p not-x ∙ l .prev-returns)
 
+  -- every node that is left is linked, and ranks rise along the links
   pub taken-linked : AllRankLinked ids′ keys′ next′ prev′
   taken-linked y node =
       let old = left-node y node in

@@ -20,10 +20,12 @@ pub record Moving (q : Queue) (placed : Placed) (amounts : List ℕ) (k : ℕ) (
   pub ids : r .ids ≡ q .ids
 
 module _ (q : Queue) (placed : Placed) (amounts : List ℕ) (n : ℕ) (can : CanMoveAll q placed amounts n) where
+  -- the queue itself is what a run has left after none of its moves
   pub none-moved : HasShape q → Moving q placed amounts 0 q
   unfolding moved-all
   none-moved shape = record { shape = shape; has-entries = record { sound = can .sound; content = refl }; ids = refl }
 
+  -- a run has at most 64 moves, so each is counted below 64
   pub turn-below : (k : ℕ) → k < n → k < 64
   turn-below k more = omega (arith, can .few)
 
@@ -48,6 +50,7 @@ module _ (q : Queue) (placed : Placed) (amounts : List ℕ) (n : ℕ) (can : Can
     unfolding moved-all
     next-entries = ap (λ (i : ℕ). moved i amount (entries r)) has-id ∙ ap (moved id amount) (moving .has-entries .content)
 
+    -- after k of the moves the next id is still at its place, and can be moved by its amount
     pub can-move-next : CanMoveAt r place amount
     can-move-next =
         record {
@@ -56,6 +59,7 @@ module _ (q : Queue) (placed : Placed) (amounts : List ℕ) (n : ℕ) (can : Can
           can = record { sound = moving .has-entries .sound; filed = place-filed r place holds; bounds = subst⁻¹ InBounds next-entries (can .bounds k more) };
         }
 
+    -- and with that move done, k + 1 of them are
     pub one-more-moved : (after : Queue) → IsMovedAt r place amount after → Moving q placed amounts (k + 1) after
     one-more-moved after is =
         subst⁻¹ (λ (j : ℕ). Moving q placed amounts j after) (add-one k)

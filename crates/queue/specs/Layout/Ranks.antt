@@ -41,13 +41,16 @@ pub rank-some : (release id : ℕ) → 1 ≤ id → rank release id ≡ release 
 unfolding rank
 rank-some release id some = if-pos (decLe 1 id) some (release * 32768 + id) 0
 
+-- with id 0, as at a free place, the rank is 0
 pub rank-none : (release id : ℕ) → id ≡ 0 → rank release id ≡ 0
 unfolding rank
 rank-none release id none = if-neg (decLe 1 id) (λ l. omega arith) (release * 32768 + id) 0
 
+-- with an id of 1 or more the rank is 1 or more ..
 pub rank-holds : (release id : ℕ) → 1 ≤ id → 1 ≤ rank release id
 rank-holds release id some = omega (arith, rank-some release id some)
 
+-- .. and a rank of 1 or more is that of such an id
 pub holds-rank : (release id : ℕ) → 1 ≤ rank release id → 1 ≤ id
 holds-rank release id some = go (decLe 1 id)
   where
@@ -59,10 +62,12 @@ holds-rank release id some = go (decLe 1 id)
 pub rank-id : (r s i j : ℕ) → 1 ≤ i → i ≤ 32767 → 1 ≤ j → j ≤ 32767 → rank r i ≡ rank s j → i ≡ j
 rank-id r s i j some-i small-i some-j small-j same = omega (arith, rank-some r i some-i, rank-some s j some-j)
 
+-- what comes first by release, then id, has the smaller rank ..
 pub rank-less : (r s i j : ℕ) → 1 ≤ i → i ≤ 32767 → 1 ≤ j → Then r s (i < j) → rank r i < rank s j
 rank-less r s i j some-i small-i some-j (inl less) = omega (arith, rank-some r i some-i, rank-some s j some-j)
 rank-less r s i j some-i small-i some-j (inr w) = omega (arith, rank-some r i some-i, rank-some s j some-j, w .0, w .1)
 
+-- .. and what has the smaller rank comes first by release, then id
 pub less-rank : (r s i j : ℕ) → 1 ≤ i → 1 ≤ j → j ≤ 32767 → rank r i < rank s j → Then r s (i < j)
 less-rank r s i j some-i some-j small-j less = go (decLt r s)
   where
@@ -76,22 +81,27 @@ pub low-place : (ranks : ℕ → ℕ) (x : ℕ) → x < 64 → low ranks x ≡ r
 unfolding low
 low-place ranks x inside = if-pos (decLt x 64) inside (ranks x) 0
 
+-- a head counts as 0 where its list leaves it
 pub low-head : (ranks : ℕ → ℕ) (x : ℕ) → 64 ≤ x → low ranks x ≡ 0
 unfolding low
 low-head ranks x head = if-neg (decLt x 64) (λ l. omega arith) (ranks x) 0
 
+-- an entry counts as its rank where the list comes to it ..
 pub high-place : (ranks : ℕ → ℕ) (x : ℕ) → x < 64 → high ranks x ≡ ranks x
 unfolding high
 high-place ranks x inside = if-pos (decLt x 64) inside (ranks x) 65_536_000_032_768
 
+-- .. and a head as 65,536,000,032,768 where its list comes back to it
 pub high-head : (ranks : ℕ → ℕ) (x : ℕ) → 64 ≤ x → high ranks x ≡ 65_536_000_032_768
 unfolding high
 high-head ranks x head = if-neg (decLt x 64) (λ l. omega arith) (ranks x) 65_536_000_032_768
 
+-- a place is in the bucket of its key ..
 pub bucket-place : (keys : ℕ → ℕ) (x : ℕ) → x < 64 → bucket-of keys x ≡ bucket-of-key (keys x)
 unfolding bucket-of
 bucket-place keys x inside = if-pos (decLt x 64) inside (bucket-of-key (keys x)) (x - 64)
 
+-- .. and a head in the bucket that is numbered 64 below it
 pub bucket-head : (keys : ℕ → ℕ) (x : ℕ) → 64 ≤ x → bucket-of keys x ≡ x - 64
 unfolding bucket-of
 bucket-head keys x head = if-neg (decLt x 64) (λ l. omega arith) (bucket-of-key (keys x)) (x - 64)

@@ -23,6 +23,7 @@ place-node ids x inside = same-as (λ l. inl (inside, l)) back (less-than 0 (ids
     back (inl place) = place .1
     back (inr head) = absurd (lt-irrefl 64 (omega (arith, head .0)))
 
+-- from 64 on a number is a node exactly if it is below 544
 pub head-node : (ids : ℕ → ℕ) (x : ℕ) → 64 ≤ x → Decides (ltb x 544) (IsNode ids x)
 head-node ids x head = same-as (λ l. inr (head, l)) back (less-than x 544)
   where
@@ -36,12 +37,14 @@ pub next-last : {ids keys prev : ℕ → ℕ} {x n back : ℕ} → IsNode ids n 
 next-last {x = x} {back = back} node bucket is-back =
     same-as (λ e. record { node = node; bucket = bucket; returns = sym is-back ∙ e }) (λ r. is-back ∙ r .returns) (equal-to back x)
 
+-- a node can stand before x exactly if its next is x
 pub prev-last : {ids next : ℕ → ℕ} {x p on : ℕ} → IsNode ids p → on ≡ next p → Decides (eqb on x) (PrevRight ids next x p)
 prev-last {x = x} {on = on} node is-on =
     same-as (λ e. record { node = node; returns = sym is-on ∙ e }) (λ r. is-on ∙ r .returns) (equal-to on x)
 
 -- a node is linked by its two links, n the next node and p the one before ..
 module _ {places : ℕ → Entry} {next prev : ℕ → ℕ} {x n p : ℕ} (on : n ≡ next x) (back : p ≡ prev x) where
+  -- .. it is linked if its link on to n and its link back to p are right ..
   pub linked-from : EntryNext places prev x n → PrevRight (λ i. places i .id) next x p → Linked places next prev x
   linked-from r l =
       record {
@@ -60,6 +63,7 @@ module _ {places : ℕ → Entry} {next prev : ℕ → ℕ} {x n p : ℕ} (on : 
     subst⁻¹ (λ (m : ℕ). m < 64 → Before (places x) (places m)) on (l .in-order inside),
   )
 
+  -- the link of a linked node to the one before it is right
   pub linked-prev : Linked places next prev x → PrevRight (λ i. places i .id) next x p
   linked-prev l = record { node = rw back (l .prev-is-node); returns = ap next back ∙ l .prev-returns }
 
@@ -67,6 +71,7 @@ module _ {places : ℕ → Entry} {next prev : ℕ → ℕ} {x n p : ℕ} (on : 
 pub next-of : {ids keys prev : ℕ → ℕ} {x m n : ℕ} → m ≡ n → NextRight ids keys prev x m → NextRight ids keys prev x n
 next-of {ids} {keys} {prev} {x} same = subst (NextRight ids keys prev x) same
 
+-- a link back that is right to m is right to p, where these are one node
 pub prev-of : {ids next : ℕ → ℕ} {x m p : ℕ} → m ≡ p → PrevRight ids next x m → PrevRight ids next x p
 prev-of {ids} {next} {x} same = subst (PrevRight ids next x) same
 
@@ -84,9 +89,11 @@ all-from {places} {next} {prev} held heads x (inr head) = let w = heads x (head 
       prev-returns = w .1 .returns;
     }
 
+-- where every node is linked, each place that holds an entry is ..
 pub all-places : {places : ℕ → Entry} {next prev : ℕ → ℕ} → AllLinked places next prev → Between 0 64 (PlaceRight places next prev)
 all-places all x _ inside some = all x (inl (inside, some))
 
+-- .. and each head has its two links right
 pub all-heads : {places : ℕ → Entry} {next prev : ℕ → ℕ} → AllLinked places next prev
     → Between 64 544 (HeadRight (λ i. places i .id) (λ i. places i .key) next prev)
 all-heads all x head below =
@@ -112,6 +119,7 @@ empty-bucket {ids} {keys} {next} {prev} {x} {n} {p} node on back alone = same-as
 pub sound-places : (q : Queue) → Sound q → PlacesSound (id-at q) (key-at q) (release-at q)
 sound-places q s = record { ids-in-range = s .ids-in-range; once = s .once; keys-in-range = s .keys-in-range; released = s .released; span = s .span }
 
+-- a queue whose places are sound and whose nodes are all linked is sound
 pub sound-from : (q : Queue) → PlacesSound (id-at q) (key-at q) (release-at q) → AllLinked (entry-at q) (next-at q) (prev-at q) → Sound q
 sound-from q p links =
     record {
@@ -123,6 +131,7 @@ sound-from q p links =
       links = links;
     }
 
+-- where the places are sound, what decides whether all nodes are linked decides whether the queue is sound
 pub sound-last : (q : Queue) {b : Bool} → PlacesSound (id-at q) (key-at q) (release-at q)
     → Decides b (AllLinked (entry-at q) (next-at q) (prev-at q)) → Decides b (Sound q)
 sound-last q p = same-as (sound-from q p) (λ s. s .links)

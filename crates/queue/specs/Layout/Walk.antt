@@ -7,10 +7,11 @@ use native.Mathlib.Omega.{arith}
 use lib.Arith.{lt-of-le-ne}
 use Rattle.queue.specs.Layout.{key-at, next-at, prev-at, IsNode, bucket-of-key, bucket-of, Sound}
 use Rattle.queue.specs.Layout.Ranks.{rank-at, low, high, low-place, low-head, high-place, high-head, bucket-head}
-use Rattle.queue.specs.Layout.SoundFacts.{node-place, rank-links, sound-rank}
+use Rattle.queue.specs.Layout.SoundRanks.{node-place, rank-links, sound-rank}
 use Rattle.queue.specs.Linking.{IsPosition, IsNewRank}
 use Rattle.queue.specs.declared.Queue.{Queue}
 
+-- the head of a key's bucket is numbered below 544
 pub head-below : (key : ℕ) → 64 + bucket-of-key key < 544
 head-below key = omega (arith, mod-lt key {m = 480} (omega arith))
 
@@ -27,6 +28,7 @@ module _ (q : Queue) (sound : Sound q) where
       let l = rank-links q sound x node in
       record { node = l .next-is-node; bucket = l .next-in-bucket ∙ bucket; above = rw (l .next-returns) less }
 
+  -- the walk begins at the node after the head of the key's bucket, with no rank before it
   pub reached-first : (key rank n : ℕ) → 1 ≤ rank → n ≡ next-at q (64 + bucket-of-key key) → Reached q key rank n
   reached-first key rank n some e =
       let h = 64 + bucket-of-key key in
@@ -34,6 +36,7 @@ module _ (q : Queue) (sound : Sound q) where
       subst⁻¹ (Reached q key rank) e
       (step key rank h (inr (from, head-below key)) (bucket-head (key-at q) h from ∙ omega arith) (omega (arith, low-head (rank-at q) h from)))
 
+  -- where the rank of an entry is not above the new one, the walk goes on to the next node
   pub reached-next : (key rank n m : ℕ) → IsNewRank q rank → Reached q key rank n → n < 64 → rank-at q n ≤ rank → m ≡ next-at q n → Reached q key rank m
   reached-next key rank n m new reached inside no-more e =
       subst⁻¹ (Reached q key rank) e
@@ -54,6 +57,7 @@ module _ (q : Queue) (sound : Sound q) where
   stop-at-place key rank n reached inside more =
       record { node = reached .node; bucket = reached .bucket; above = reached .above; below = rw (high-place (rank-at q) n inside) more }
 
+  -- a walk that is back at the head is at the position, if its rank is below 65,536,000,032,768
   pub stop-at-head : (key rank n : ℕ) → rank < 65_536_000_032_768 → Reached q key rank n → 64 ≤ n → IsPosition q key rank n
   stop-at-head key rank n small reached head =
       record { node = reached .node; bucket = reached .bucket; above = reached .above; below = omega (arith, high-head (rank-at q) n head) }

@@ -1,7 +1,7 @@
 -- `queue::soundness::next_is_right` meets its contract: each test refuses for one of the three conditions, and the last decides.
 use mathlib.Core.Path.{sym, _∙_}
 use Rattle.basics.specs.Facts.Decides.{decides-no, failed, passed}
-use Rattle.queue.specs.Layout.SoundFacts.{node-below}
+use Rattle.queue.specs.Layout.SoundRanks.{node-below}
 use Rattle.basics.specs.NewIds.{at}
 use Rattle.queue.specs.Layout.SoundnessFacts.{next-last}
 use borrow.Author.Needs.{needs}

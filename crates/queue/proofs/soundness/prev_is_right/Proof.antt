@@ -1,6 +1,6 @@
 -- `queue::soundness::prev_is_right` meets its contract: p must be a node, and its next must be x.
 use Rattle.basics.specs.Facts.Decides.{decides-no, failed, passed}
-use Rattle.queue.specs.Layout.SoundFacts.{node-below}
+use Rattle.queue.specs.Layout.SoundRanks.{node-below}
 use Rattle.basics.specs.NewIds.{at}
 use Rattle.queue.specs.Layout.SoundnessFacts.{prev-last}
 use borrow.Author.Needs.{needs}

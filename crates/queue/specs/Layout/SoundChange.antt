@@ -1,110 +1,27 @@
 -- A sound queue stays sound when an entry is put in or taken out, and its entries change as the list says.
 use mathlib.Core.Path.{_≡_, refl, sym, ap, subst, subst⁻¹, _∙_}
-use mathlib.Core.Logic.{inl, inr, ∥∥₁-elim, Dec·not}
+use mathlib.Core.Logic.{inl, inr, Dec·not}
 use mathlib.Core.List.{List, List·Mem, mem-filter}
-use Prim.Native.Nat.{ℕ, _+_, _≤_, _<_}
-use native.Mathlib.Bridge.{le-prop}
+use Prim.Native.Nat.{ℕ, _≤_, _<_}
 use native.Mathlib.Nat.{lt-irrefl}
-use native.Mathlib.Decide.{decLe, ℕ-discrete}
+use native.Mathlib.Decide.{ℕ-discrete}
 use native.Mathlib.Omega.{arith}
 use lib.ListN.{length, getD, set, length-set}
 use lib.Seq.{getD-set-same, getD-set-other}
-use Rattle.basics.specs.Facts.Lexicographic.{then-rest}
-use Rattle.places.specs.Order.{Entry, Before, triple}
+use Rattle.places.specs.Order.{Entry, triple}
 use Rattle.places.specs.Entries.{put, without, InBounds}
-use Rattle.places.specs.Collected.{Once, IsSet}
-use Rattle.places.specs.Facts.Collected.{of-collected, in-collected, put-once, put-collected, taken-once, taken-collected}
+use Rattle.places.specs.Collected.{IsSet}
+use Rattle.places.specs.Facts.Collected.{put-once, put-collected, taken-once, taken-collected}
 use Rattle.places.specs.Facts.Entries.{entry-path}
-use Rattle.queue.specs.Layout.{id-at, key-at, release-at, entry-at, next-at, prev-at, Holds, entries, IsNode, bucket-of, AllLinked, Sound}
-use Rattle.queue.specs.Layout.Ranks.{rank, rank-at, low, high, RankLinked, AllRankLinked, low-place, low-head, high-place, high-head, bucket-place}
-use Rattle.queue.specs.Layout.Ranks.{rank-some, rank-none, rank-holds, holds-rank, rank-id, rank-less, less-rank}
+use Rattle.queue.specs.Layout.{id-at, key-at, release-at, entry-at, next-at, prev-at, Holds, entries, IsNode, bucket-of, Sound}
+use Rattle.queue.specs.Layout.Ranks.{rank, rank-at, high, RankLinked, AllRankLinked, low-place, high-place, rank-none, rank-holds}
+use Rattle.queue.specs.Layout.SoundRanks.{node-below, sound-once, sound-in-bounds, made-sound, rank-links}
 use Rattle.queue.specs.Layout.LinkChange.{put-linked, taken-linked}
 use Rattle.queue.specs.Linking.{HasShape, put-before, taken-out, IsPosition}
 use Rattle.queue.specs.declared.Queue.{Queue}
 
 is-set : (l : List ℕ) (x v : ℕ) → x < length l → IsSet (λ i. getD l i 0) x v (λ i. getD (set l x v) i 0)
 is-set l x v inside = record { at = getD-set-same l x v 0 inside; elsewhere = λ y other. getD-set-other l x y v 0 other }
-
-pub node-below : (ids : ℕ → ℕ) (x : ℕ) → IsNode ids x → x < 544
-node-below ids x (inl place) = omega (arith, place .0)
-node-below ids x (inr head) = head .1
-
-pub sound-once : (q : Queue) → Sound q → Once (id-at q)
-sound-once q sound i j li lj holds same = sound .once i j (li, holds) (lj, rw same at holds) same
-
--- the bounds hold of the entries exactly if they hold of the places
-pub sound-in-bounds : (q : Queue) → Sound q → InBounds (entries q)
-unfolding entries
-sound-in-bounds q sound =
-    record {
-      keys = λ e m. ∥∥₁-elim (of-collected (entry-at q) 64 e m) le-prop (λ w. rw (w .3) (sound .keys-in-range (w .0) (w .1, w .2)));
-      released = λ e m. ∥∥₁-elim (of-collected (entry-at q) 64 e m) le-prop (λ w. rw (w .3) (sound .released (w .0) (w .1, w .2)));
-      span = λ d e md me.
-          ∥∥₁-elim (of-collected (entry-at q) 64 d md) le-prop
-          (λ v. ∥∥₁-elim (of-collected (entry-at q) 64 e me) le-prop (λ w. rw (v .3, w .3) (sound .span (v .0) (w .0) (v .1, v .2) (w .1, w .2))));
-    }
-
-in-entries : (q : Queue) (i : ℕ) → Holds q i → List·Mem (entry-at q i) (entries q)
-unfolding entries
-in-entries q i holds = in-collected (entry-at q) 64 i (holds .0) (holds .1)
-
--- a node is one by its rank as by its id
-rank-node : (q : Queue) (x : ℕ) → IsNode (rank-at q) x → IsNode (id-at q) x
-rank-node q x (inl place) = inl (place .0, holds-rank (release-at q x) (id-at q x) (place .1))
-rank-node q x (inr head) = inr head
-
-node-rank : (q : Queue) (x : ℕ) → IsNode (id-at q) x → IsNode (rank-at q) x
-node-rank q x (inl place) = inl (place .0, rank-holds (release-at q x) (id-at q x) (place .1))
-node-rank q x (inr head) = inr head
-
-pub node-place : (q : Queue) (n : ℕ) → IsNode (rank-at q) n → n < 64 → Holds q n
-node-place q n (inl place) inside = (inside, holds-rank (release-at q n) (id-at q n) (place .1))
-node-place q n (inr head) inside = absurd (lt-irrefl 64 (omega (arith, head .0)))
-
-abbrev ShortSpan : Queue → Type 0
-ShortSpan q = (i j : ℕ) → Holds q i → Holds q j → key-at q i ≤ key-at q j + 479
-
--- keys of one bucket that are at most 479 apart are one
-one-key : (q : Queue) → ShortSpan q → (i j : ℕ) → Holds q i → Holds q j → bucket-of (key-at q) j ≡ bucket-of (key-at q) i → key-at q i ≡ key-at q j
-one-key q span i j hi hj same = omega (arith, span i j hi hj, span j i hj hi, same, bucket-place (key-at q) i (hi .0), bucket-place (key-at q) j (hj .0))
-
--- nodes that are linked by their ranks are linked ..
-ranks-linked : (q : Queue) → ((i : ℕ) → Holds q i → id-at q i ≤ 32767) → ShortSpan q
-    → AllRankLinked (rank-at q) (key-at q) (next-at q) (prev-at q) → AllLinked (entry-at q) (next-at q) (prev-at q)
-ranks-linked q range span linked x node =
-    let l = linked x (node-rank q x node) in
-    let n = next-at q x in
-    record {
-      next-is-node = rank-node q n (l .next-is-node);
-      next-in-bucket = l .next-in-bucket;
-      next-returns = l .next-returns;
-      in-order = λ inside below.
-          let here = node-place q x (node-rank q x node) inside in
-          let there = node-place q n (l .next-is-node) below in
-          inr (
-            one-key q span x n here there (l .next-in-bucket),
-            less-rank (release-at q x) (release-at q n) (id-at q x) (id-at q n) (here .1) (there .1) (range n there)
-                (omega (arith, l .in-order, low-place (rank-at q) x inside, high-place (rank-at q) n below)),
-          );
-      prev-is-node = rank-node q (prev-at q x) (l .prev-is-node);
-      prev-returns = l .prev-returns;
-    }
-
--- ids in range, ids apart, entries within the bounds, and links: that is all there is to soundness
-made-sound : (q : Queue) → ((i : ℕ) → Holds q i → id-at q i ≤ 32767) → Once (id-at q)
-    → InBounds (entries q) → AllRankLinked (rank-at q) (key-at q) (next-at q) (prev-at q) → Sound q
-made-sound q range once bounds links =
-    record {
-      ids-in-range = range;
-      once = λ i j hi hj. once i j (hi .0) (hj .0) (hi .1);
-      keys-in-range = λ i hi. bounds .keys (entry-at q i) (in-entries q i hi);
-      released = λ i hi. bounds .released (entry-at q i) (in-entries q i hi);
-      span = span;
-      links = ranks-linked q range span links;
-    }
-  where
-    span : ShortSpan q
-    span i j hi hj = bounds .span (entry-at q i) (entry-at q j) (in-entries q i hi) (in-entries q j hj)
 
 -- an entry set at a place, and its rank
 entry-set-at : (q q′ : Queue) (x : ℕ) (e : Entry) → IsSet (id-at q) x (e .id) (id-at q′) → IsSet (key-at q) x (e .key) (key-at q′)
@@ -121,63 +38,6 @@ rank-set-at q q′ x e set =
       at = ap (λ (a : Entry). rank (a .release) (a .id)) (set .at);
       elsewhere = λ y other. ap (λ (a : Entry). rank (a .release) (a .id)) (set .elsewhere y other);
     }
-
--- ranks in a sound queue are below that of a head that the list comes back to
-pub rank-small : (release key id : ℕ) → release ≤ key → key ≤ 2_000_000_000 → id ≤ 32767 → rank release id < 65_536_000_032_768
-rank-small release key id before within small = go (decLe 1 id)
-  where
-    go : Dec (1 ≤ id) → rank release id < 65_536_000_032_768
-    go (yes some) = omega (arith, rank-some release id some)
-    go (no none) = omega (arith, rank-none release id (omega arith))
-
-pub sound-rank : (q : Queue) → Sound q → (i : ℕ) → Holds q i → rank-at q i < 65_536_000_032_768
-sound-rank q sound i holds =
-    rank-small (release-at q i) (key-at q i) (id-at q i) (sound .released i holds) (sound .keys-in-range i holds) (sound .ids-in-range i holds)
-
--- .. and in a sound queue nodes are linked by their ranks
-module _ (q : Queue) (sound : Sound q) (x : ℕ) where
-  by-rank : (n : ℕ) → IsNode (id-at q) x → IsNode (id-at q) n → bucket-of (key-at q) n ≡ bucket-of (key-at q) x
-      → (x < 64 → n < 64 → Before (entry-at q x) (entry-at q n)) → low (rank-at q) x < high (rank-at q) n
-  by-rank n (inr head) (inr on) bucket order = omega (arith, low-head (rank-at q) x (head .0), high-head (rank-at q) n (on .0))
-  by-rank n (inr head) (inl on) bucket order =
-      let ranked = rank-holds (release-at q n) (id-at q n) (on .1) in
-      omega (arith, low-head (rank-at q) x (head .0), high-place (rank-at q) n (on .0))
-  by-rank n (inl place) (inr on) bucket order = omega (arith, low-place (rank-at q) x (place .0), high-head (rank-at q) n (on .0), sound-rank q sound x place)
-  by-rank n (inl place) (inl on) bucket order =
-      rw (low-place (rank-at q) x (place .0), high-place (rank-at q) n (on .0))
-      (rank-less (release-at q x) (release-at q n) (id-at q x) (id-at q n) (place .1) (sound .ids-in-range x place) (on .1)
-      (then-rest (one-key q (sound .span) x n place on bucket) (order (place .0) (on .0))))
-
-  pub rank-links : IsNode (rank-at q) x → RankLinked (rank-at q) (key-at q) (next-at q) (prev-at q) x
-  rank-links node =
-      let here = rank-node q x node in
-      let l = sound .links x here in
-      record {
-        next-is-node = node-rank q (next-at q x) (l .next-is-node);
-        next-in-bucket = l .next-in-bucket;
-        next-returns = l .next-returns;
-        in-order = by-rank (next-at q x) here (l .next-is-node) (l .next-in-bucket) (l .in-order);
-        prev-is-node = node-rank q (prev-at q x) (l .prev-is-node);
-        prev-returns = l .prev-returns;
-      }
-
--- a new id has a new rank
-pub new-rank : (q : Queue) → Sound q → (release id : ℕ) → 1 ≤ id → id ≤ 32767
-    → ((i : ℕ) → i < 64 → id-at q i ≡ id → ⊥) → (i : ℕ) → i < 64 → rank-at q i ≡ rank release id → ⊥
-new-rank q sound release id some small unused i below same = go (decLe 1 (id-at q i))
-  where
-    go : Dec (1 ≤ id-at q i) → ⊥
-    go (yes holds) = unused i below (rank-id (release-at q i) release (id-at q i) id holds (sound .ids-in-range i (below, holds)) some small same)
-    go (no free) = lt-irrefl 0 (omega (arith, same, rank-none (release-at q i) (id-at q i) (omega arith), rank-holds release id some))
-
--- and so do ids that differ
-pub sound-rank-once : (q : Queue) → Sound q → Once (rank-at q)
-sound-rank-once q sound i j li lj holds same =
-    let hi = holds-rank (release-at q i) (id-at q i) holds in
-    let hj = holds-rank (release-at q j) (id-at q j) (rw same at holds) in
-    let small-i = sound .ids-in-range i (li, hi) in
-    let small-j = sound .ids-in-range j (lj, hj) in
-    sound .once i j (li, hi) (lj, hj) (rank-id (release-at q i) (release-at q j) (id-at q i) (id-at q j) hi small-i hj small-j same)
 
 module _ (q : Queue) (sound : Sound q) (shape : HasShape q) (x : ℕ) (e : Entry) (n : ℕ)
     (inside : x < 64) (free : id-at q x ≡ 0) (some : 1 ≤ e .id) (small : e .id ≤ 32767)
@@ -211,6 +71,7 @@ module _ (q : Queue) (sound : Sound q) (shape : HasShape q) (x : ℕ) (e : Entry
   not-x y (inl place) e = lt-irrefl 0 (omega (arith, subst (λ (z : ℕ). 1 ≤ rank-at q z) e (place .1), free-rank))
   not-x y (inr head) e = lt-irrefl 0 (omega (arith, e))
 
+  -- a new id at a free place, linked in where its rank goes, is put where it belongs among the entries
   pub put-entries : entries (put-before q x e n) ≡ put e (entries q)
   unfolding entries q′
   put-entries = put-collected (entry-at q) (entry-at q′) x e inside set-entry free some (sound-once q sound) unused
@@ -233,6 +94,7 @@ module _ (q : Queue) (sound : Sound q) (shape : HasShape q) (x : ℕ) (e : Entry
       (getD-set-same (set (q .prev) n x) x p 0 (omega (arith, shape .prev, length-set (q .prev) n x)))
       (λ y not-n not-here. getD-set-other (set (q .prev) n x) x y p 0 not-here ∙ getD-set-other (q .prev) n y x 0 (λ e. not-n (e ∙ sym (here .prev-returns))))
 
+  -- and the queue is still sound, if the entries with the new one are within the bounds
   pub put-sound : InBounds (put e (entries q)) → Sound (put-before q x e n)
   unfolding q′
   put-sound bounds =
@@ -256,6 +118,7 @@ fewer-in-bounds es fs inside bounds =
       span = λ d e md me. bounds .span d e (inside d md) (inside e me);
     }
 
+-- what is left without an id was there before
 pub in-without : (id : ℕ) (es : List Entry) (e : Entry) → List·Mem e (without id es) → List·Mem e es
 unfolding without
 in-without id es e m = mem-filter (λ (x : Entry). Dec·not (ℕ-discrete (x .id) id)) .0 m .0
@@ -282,6 +145,7 @@ module _ (q : Queue) (sound : Sound q) (shape : HasShape q) (x : ℕ) (holds : H
       let set-rank = rank-set-at q out x (triple 0 0 0) free-entry in
       record { at = set-rank .at ∙ rank-none 0 0 refl; elsewhere = set-rank .elsewhere }
 
+  -- with the entry at a place taken out, the entries are those of the other ids, as they stood
   pub taken-entries : entries (taken-out q x) ≡ without (id-at q x) (entries q)
   unfolding entries out
   taken-entries = taken-collected (entry-at q) (entry-at out) x (triple 0 0 0) (holds .0) free-entry refl (holds .1) (sound-once q sound)
@@ -295,6 +159,7 @@ module _ (q : Queue) (sound : Sound q) (shape : HasShape q) (x : ℕ) (holds : H
   prev-apart : prev-at q x ≡ x → ⊥
   prev-apart e = next-apart (sym (ap (next-at q) e) ∙ there .prev-returns)
 
+  -- and the queue is still sound
   pub taken-sound : Sound (taken-out q x)
   unfolding out
   taken-sound =

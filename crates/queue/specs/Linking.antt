@@ -20,7 +20,7 @@ pub record HasShape (q : Queue) : Type 0 where
   pub next : length (q .next) ≡ 544
   pub prev : length (q .prev) ≡ 544
 
--- x is a place, n and the node before it are nodes.
+-- x is a place, and n and what is linked before it are below 544, as nodes are.
 abbrev pub CanLink : (prev : List ℕ) → ℕ → ℕ → Type 0
 CanLink prev x n = (x < 64) × (n < 544) × (getD prev n 0 < 544)
 
@@ -31,7 +31,7 @@ linked-next next prev x n = set (set next (getD prev n 0) x) x n
 abbrev pub linked-prev : (prev : List ℕ) → ℕ → ℕ → List ℕ
 linked-prev prev x n = set (set prev n x) x (getD prev n 0)
 
--- x is a place, and the nodes beside it are nodes.
+-- x is a place, and what is linked on both sides of it is below 544, as nodes are.
 abbrev pub CanUnlink : (next prev : List ℕ) → ℕ → Type 0
 CanUnlink next prev x = (x < 64) × (getD next x 0 < 544) × (getD prev x 0 < 544)
 
@@ -114,7 +114,7 @@ pub record CanMoveAt (q : Queue) (x amount : ℕ) : Type 0 where
   pub holds : Holds q x
   pub can : CanMove q (id-at q x) amount
 
--- The amount is added to the key of the id at place x, and every id stays at its place.
+-- The amount is added to the key and the release of the id at place x, and every id stays at its place.
 pub record IsMovedAt (q : Queue) (x amount : ℕ) (r : Queue) : Type 0 where
   pub shape : HasShape r
   pub has-entries : HasEntries r (moved (id-at q x) amount (entries q))

@@ -50,7 +50,7 @@ fn search_sound(q: Queue, from: u32, key: u32, release: u32, id: u32) -> usize
     found
 }
 
-// The search starts at the greater of the triple and the key least one: buckets before that could hold only keys that come later.
+// The search starts at the greater of the given key and the least key: buckets before that could hold only keys that come later.
 pub fn first_after_sound(q: Queue, key: u32, release: u32, id: u32) -> usize
     requires { ⌜ Sound q ⌝ }
     ensures { λ r. ⌜ IsFirstAfter q (triple key release id) r ⌝ }

@@ -14,7 +14,7 @@ pub then-rest : {a b : ℕ} {R : Type 0} → a ≡ b → Then a b R → R
 then-rest {a} same (inl less) = absurd (lt-irrefl a (omega (arith, less, same)))
 then-rest same (inr w) = w .1
 
--- no number is before 0
+-- 0 is in order with every number, if the rest is
 pub then-zero : (a : ℕ) {R : Type 0} → R → Then 0 a R
 then-zero zero rest = inr (refl, rest)
 then-zero (suc a) rest = inl (omega arith)

@@ -31,7 +31,7 @@ begins {bytes = bytes} {n = n} start i some before =
       value = begun .value;
       numeral = rw (take-take i n bytes at-most) at (begun .numeral);
       positive = begun .positive;
-      smaller = begun .smaller;
+      smaller = begun .no-larger;
     }
 
 -- where a number ends no digit stands, and 10 says so
@@ -108,7 +108,7 @@ too-large {bytes = bytes} i {value = value} some within read large v n start = g
     go : Dec (i < n) → ⊥
     go (yes before) =
         let begun = begins start i some before in
-        lt-irrefl 0 (omega (arith, begun .smaller, start .fits, numeral-unique (begun .numeral) read))
+        lt-irrefl 0 (omega (arith, begun .no-larger, start .fits, numeral-unique (begun .numeral) read))
     go (no past) =
         let last : n ≡ i = omega (arith, ends-last i (start .ends) within read) in
         lt-irrefl 0 (omega (arith, start .fits, numeral-unique (rw last at (start .numeral)) read))

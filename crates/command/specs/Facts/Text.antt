@@ -48,12 +48,12 @@ numeral-digits (further {bytes = bytes} begun positive d small) i low = go (decL
         let byte : getD (bytes ++ ((48 + d) ∷ [])) i 0 ≡ 48 + d = rw last (getD-append-seam bytes (48 + d) [] 0) in
         (omega arith, omega arith)
 
--- A numeral with bytes left out at its end: one of a smaller value, and not 0.
+-- A numeral with bytes left out at its end: one of a value that is no larger, and not 0.
 pub record IsBegun (bytes : List ℕ) (i n : ℕ) : Type 0 where
   pub value : ℕ
   pub numeral : IsNumeral (take i bytes) value
   pub positive : 1 ≤ value
-  pub smaller : value ≤ n
+  pub no-larger : value ≤ n
 
 -- the first bytes of a number in text, some but not all, are one too: not 0, and no larger
 pub numeral-begun : {bytes : List ℕ} {n : ℕ} → IsNumeral bytes n → (i : ℕ) → 1 ≤ i → i < length bytes → IsBegun bytes i n
@@ -68,7 +68,7 @@ numeral-begun (further {bytes = bytes} {n = n} begun positive d small) i some lo
           value = ih before .value;
           numeral = rw same (ih before .numeral);
           positive = ih before .positive;
-          smaller = omega (arith, ih before .smaller);
+          no-larger = omega (arith, ih before .no-larger);
         }
     go (no past) ih =
         let last : i ≡ length bytes = omega (arith, length-append bytes ((48 + d) ∷ [])) in
@@ -76,5 +76,5 @@ numeral-begun (further {bytes = bytes} {n = n} begun positive d small) i some lo
           value = n;
           numeral = rw (last, take-append-seam bytes ((48 + d) ∷ [])) begun;
           positive = positive;
-          smaller = omega arith;
+          no-larger = omega arith;
         }

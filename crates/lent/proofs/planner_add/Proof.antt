@@ -39,7 +39,9 @@ use Rattle.planner.proofs.add as callee
 use Rattle.planner.proofs.add.Symbol as callee-def
 use Rattle.planner.proofs.add.Symbol.{name as #callee}
 use Rattle.planner.proofs.add.Met as callee-thm
-use Rattle.lent.proofs.Stored.{mach, Fit, Closed, Answer, passes-on, hands-back, kept, copies-out, lands-change, stores-if, takes-number, local-then, returns-answer}
+use Rattle.planner.specs.Facts.Calls.{refused-change}
+use Rattle.lent.proofs.Owned.{mach, Fit, Closed, passes-on, hands-back}
+use Rattle.lent.proofs.Stored.{Answer, copies-out, lands-change, stores-if, takes-number, local-then, returns-answer}
 use Rattle.lent.proofs.planner_add.Key.{name as #planner-add}
 use Rattle.lent.proofs.planner_add as f
 use Rattle.lent.proofs.planner_add.Statement as stated
@@ -113,7 +115,7 @@ module _ {M : Type 1} (𝓤 : URA M) (H : Heap 𝓤) (A : Atoms 𝓤) (W : Given
         (local-then ! 5 refl (local-then ! 19 refl (local-then ! 17 refl (local-then ! 15 refl (local-then ! 13 refl (no-more !)))))) (λ w.
         use1 W (Answer 𝓤 (lasts callee.ended tt passed) Says w) (id⊢ 𝓤 _) $
         move ! (0 ∷ 1 ∷ 2 ∷ 3 ∷ 4 ∷ 6 ∷ 7 ∷ 8 ∷ 9 ∷ []) $ lands-change ! w Says b o refl (λ r e is′ r-fits.
-        stores-if ! is is′ refl refl refl refl tt (kept e) $ move ! (0 ∷ 1 ∷ 2 ∷ 3 ∷ 4 ∷ 6 ∷ []) $ returns-answer ! refl refl r-fits $
+        stores-if ! is is′ refl refl refl refl tt (refused-change e) $ move ! (0 ∷ 1 ∷ 2 ∷ 3 ∷ 4 ∷ 6 ∷ []) $ returns-answer ! refl refl r-fits $
         -- [obs; the borrow; the token; room for _1, _6, _0, _8; _7; the rest in their order]
         forget ! 7 refl $ move ! (5 ∷ 20 ∷ 3 ∷ 19 ∷ 17 ∷ 18 ∷ 15 ∷ 16 ∷ 13 ∷ 14 ∷ 11 ∷ 12 ∷ 4 ∷ 10 ∷ 7 ∷ 9 ∷ 6 ∷ 8 ∷ []) $
         forget ! 4 refl $ forget ! 6 refl $ forget ! 8 refl $ forget ! 10 refl $

@@ -39,7 +39,8 @@ use Rattle.planner.proofs.open as callee
 use Rattle.planner.proofs.open.Symbol as callee-def
 use Rattle.planner.proofs.open.Symbol.{name as #callee}
 use Rattle.planner.proofs.open.Met as callee-thm
-use Rattle.lent.proofs.Stored.{Fit, Closed, Answer, passes-numbers, hands-back, opened, lands-change, stores, takes-number, local-then, returns-answer}
+use Rattle.lent.proofs.Owned.{Fit, Closed, passes-numbers, hands-back}
+use Rattle.lent.proofs.Stored.{Answer, opened, lands-change, stores, takes-number, local-then, returns-answer}
 use Rattle.lent.proofs.planner_open.Key.{name as #planner-open}
 use Rattle.lent.proofs.planner_open as f
 use Rattle.lent.proofs.planner_open.Statement as stated

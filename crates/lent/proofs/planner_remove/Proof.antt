@@ -39,7 +39,9 @@ use Rattle.planner.proofs.remove as callee
 use Rattle.planner.proofs.remove.Symbol as callee-def
 use Rattle.planner.proofs.remove.Symbol.{name as #callee}
 use Rattle.planner.proofs.remove.Met as callee-thm
-use Rattle.lent.proofs.Stored.{mach, Fit, Closed, Answer, passes-on, hands-back, kept, copies-out, lands-change, stores-if, takes-number, local-then, returns-answer}
+use Rattle.planner.specs.Facts.Calls.{refused-change}
+use Rattle.lent.proofs.Owned.{mach, Fit, Closed, passes-on, hands-back}
+use Rattle.lent.proofs.Stored.{Answer, copies-out, lands-change, stores-if, takes-number, local-then, returns-answer}
 use Rattle.lent.proofs.planner_remove.Key.{name as #planner-remove}
 use Rattle.lent.proofs.planner_remove as f
 use Rattle.lent.proofs.planner_remove.Statement as stated
@@ -107,7 +109,7 @@ module _ {M : Type 1} (𝓤 : URA M) (H : Heap 𝓤) (A : Atoms 𝓤) (W : Given
         calls-at ! fm (Callee 𝓤 H A at-mem run) known to-callee (local-then ! 5 refl (local-then ! 13 refl (no-more !))) (λ w.
         use1 W (Answer 𝓤 (lasts callee.ended tt passed) (IsRemove h id) w) (id⊢ 𝓤 _) $
         move ! (0 ∷ 1 ∷ 2 ∷ 3 ∷ 4 ∷ 6 ∷ 7 ∷ 8 ∷ 9 ∷ []) $ lands-change ! w (IsRemove h id) b o refl (λ r e is′ r-fits.
-        stores-if ! is is′ refl refl refl refl tt (kept e) $ move ! (0 ∷ 1 ∷ 2 ∷ 3 ∷ 4 ∷ 6 ∷ []) $ returns-answer ! refl refl r-fits $
+        stores-if ! is is′ refl refl refl refl tt (refused-change e) $ move ! (0 ∷ 1 ∷ 2 ∷ 3 ∷ 4 ∷ 6 ∷ []) $ returns-answer ! refl refl r-fits $
         -- [obs; the borrow; the token; room for _1, _3, _0, _5; _4; the rest in their order]
         forget ! 7 refl $ move ! (5 ∷ 14 ∷ 3 ∷ 13 ∷ 11 ∷ 12 ∷ 4 ∷ 10 ∷ 7 ∷ 9 ∷ 6 ∷ 8 ∷ []) $
         forget ! 4 refl $ free1 ! $ free1 ! $ free1 ! $ free1 ! $ free1 ! $ free1 ! $ free0 ! $ by ! (exits r e r-fits))))))))))

@@ -62,7 +62,7 @@ module _ (at : ℕ → Entry) where
           lt-irrefl n (subst (λ (j : ℕ). j < n) e (w .1)))))
       go below (no free) = rw (collected-none n (omega arith)) below
 
-  -- a free place leaves room, and with none free there are as many entries as places
+  -- no more entries are collected from the first n places than n
   pub collected-length : (n : ℕ) → length (collected at n) ≤ n
   unfolding collected
   collected-length zero = omega arith

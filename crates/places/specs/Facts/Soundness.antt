@@ -57,7 +57,7 @@ once-to ids once i inside holds j less same =
     lt-irrefl i (omega (arith, once i j (inside, holds) (omega arith, rw same holds) (sym same)))
 
 module _ {ids keys releases : ℕ → ℕ} where
-  -- what each test of the places refuses ..
+  -- of sound places no id is above 32,767 ..
   pub places-range : PlacesSound ids keys releases → Below 64 (λ i. ids i ≤ 32767)
   places-range s i inside = go (decLt 0 (ids i))
     where

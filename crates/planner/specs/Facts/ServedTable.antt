@@ -141,7 +141,7 @@ module _ (h : Content) (sound : ContentSound h) (s : ℕ) (lazy : IsStart h s) w
           map-map (λ (r : Record). r .id) (sent-in (take k (ids-at h s))) (h .table)
           ∙ map-congr-left {l = h .table} (λ r m. sent-in-id (take k (ids-at h s)) r)
 
-  -- .. and all due times lie in s + 1 to s + 480
+  -- A record is due at s + 1 to s + 480, and its period is at most 240.
   abbrev InBoundsAt : Record → Type 0
   InBoundsAt r = ((s + 1 ≤ due-of r) × (due-of r ≤ s + 480)) × (r .period ≤ 240)
 

@@ -150,7 +150,7 @@ module _ (q : Queue) (sound : Sound q) (from : ℕ) (point : Entry) (start : Sea
         none = λ _ i holds after. omega (arith, at .ahead i holds after, start i holds after .1);
       })
 
--- the search may start at the least key, and at a triple above it key
+-- whatever the point, every entry after it has its key among the 480 from the least key on
 pub from-least : (q : Queue) (least : ℕ) (point : Entry) → Sound q → IsLeast (id-at q) (key-at q) 64 least → SearchFrom q least point
 from-least q least point sound is i holds after = (is .at-most i (holds .0) (holds .1), go (is .reached))
   where

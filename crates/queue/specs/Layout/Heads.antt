@@ -43,7 +43,7 @@ lone-heads-alone j from below =
     let e : j ≡ 64 + (j - 64) = omega arith in
     ap (λ (k : ℕ). getD lone-heads k 0) e ∙ (getD-append-add zeros (numbers-from 64 480) (j - 64) 0 ∙ (numbers-from-at 64 480 (j - 64) (omega arith) ∙ sym e))
 
--- the heads from 64 to x link to themselves, and the places to 0
+-- The heads from 64 on and below x link to themselves, and the places to 0.
 pub record HeadsAlone (links : List ℕ) (x : ℕ) : Type 0 where
   pub from : 64 ≤ x
   pub within : x ≤ 544

@@ -26,7 +26,7 @@ node-below ids x (inr head) = head .1
 pub sound-once : (q : Queue) → Sound q → Once (id-at q)
 sound-once q sound i j li lj holds same = sound .once i j (li, holds) (lj, rw same at holds) same
 
--- the bounds hold of the entries exactly if they hold of the places
+-- the entries of a sound queue are within bounds
 pub sound-in-bounds : (q : Queue) → Sound q → InBounds (entries q)
 unfolding entries
 sound-in-bounds q sound =

@@ -59,7 +59,7 @@ least-of f cap from (suc n) = min (f (from + n)) (least-of f cap from n)
 unfoldable pub latest : ℕ → ℕ → List Stream → ℕ → ℕ
 latest b cap ss t = ite (decLt 0 (future ss t)) (t - ceil (future ss t) b) cap
 
--- the lazy start, looked for in the T lengths from the first due time on
+-- the lazy start, looked for at the T times from the first due time on
 unfoldable pub lazy-start : ℕ → ℕ → List Stream → ℕ → ℕ → ℕ
 lazy-start b cap ss first T = least-of (latest b cap ss) cap first T
 

@@ -9,5 +9,6 @@ pub mod Commands
 pub mod Unique
 pub mod Runs
 pub mod LineEnds
+pub mod Inside
 pub mod SameAnswers
 pub mod SameRuns

@@ -1,8 +1,8 @@
 -- A whole script from memory into a lent buffer.
 use mathlib.Core.Path.{_≡_}
 use mathlib.Core.List.{List}
-use Prim.Native.Nat.{ℕ}
-use lib.ListN.{take}
+use Prim.Native.Nat.{ℕ, _≤_}
+use lib.ListN.{length, take, drop}
 use Rattle.planner.specs.Open.{zeros, IsFresh}
 use Rattle.command.specs.Runs.{HasRun, HasRunLast}
 use Rattle.command.specs.declared.lines.Reached.{Reached}
@@ -24,6 +24,12 @@ pub record IsScript (script before after : List ℕ) (r : ℕ) : Type 0 where
   pub ended : Reached
   pub last : HasRunLast reached script middle after ended
   pub written : r ≡ ended .end
+
+-- Annex 11.24, 12.1: what was written stands at the front of the lent buffer, within it, and the places behind are as they were.
+pub record StaysInside (before after : List ℕ) (written : ℕ) : Type 0 where
+  pub within : written ≤ length before
+  pub same-length : length after ≡ length before
+  pub behind : drop written after ≡ drop written before
 
 -- Annex 12.27: two runs of the same script into buffers of the same length: as many bytes written, the same ones; and from equal buffers all places are equal.
 pub record IsSameOutput (before before′ after after′ : List ℕ) (r r′ : ℕ) : Type 0 where

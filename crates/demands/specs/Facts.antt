@@ -2,6 +2,7 @@
 pub mod CallLists
 pub mod Held
 pub mod TestedCases
+pub mod OtherCalls
 pub mod One
 pub mod Two
 pub mod Three

@@ -2,6 +2,8 @@
 -- One, Two, Three, Packets and Cases, with the definitions that they cite; Facts proves them.
 pub mod CallLists
 pub mod Rivals
+pub mod Decide
+pub mod OtherCalls
 pub mod One
 pub mod Two
 pub mod Three

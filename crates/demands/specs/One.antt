@@ -1,6 +1,5 @@
 -- Demand 1: nothing on trust. Annex, chapter 12.
--- That calls end and stay inside their buffers is what the checker proves of every function, and none of these four has a `requires`. The queue's
--- calls and superframe say the same in their own contracts; `filled` refuses nothing.
+-- That calls end and stay inside their buffers is what the checker proves of every function, and no call of an interface has a `requires`.
 use mathlib.Core.Path.{_≡_}
 use mathlib.Core.List.{List}
 use Prim.Native.Nat.{ℕ}
@@ -13,6 +12,9 @@ use Rattle.planner.specs.Round.{round-refusals, IsRefusedRound, IsRound}
 use Rattle.planner.specs.declared.Planner.{Planner}
 use Rattle.planner.specs.declared.Changed.{Changed}
 use Rattle.planner.specs.declared.Rounded.{Rounded}
+use Rattle.lent.specs.Lent.{IsLentOpen, IsLentAdd, IsLentRemove, IsLentRound}
+use Rattle.lent.specs.declared.Held.{Held}
+use Rattle.demands.specs.OtherCalls.{OtherCallsMeet}
 
 -- Annex 12.2, 12.3: open gives the first number that applies, else 0; success gives a sound planner with B, F, G and L = T as passed and no stream, a
 -- refusal the closed one, which is not sound.
@@ -41,10 +43,18 @@ pub record RoundMeets (p : Planner) (before after : List ℕ) (r : Rounded) : Ty
   pub unchanged : (r .answer ≡ 0 → ⊥) → IsRefusedRound p before after r
   pub sound : Sound p → Sound (r .planner)
 
--- Annex 7.1, 11.10, 12.1, 12.3: all four calls, on any planner, sound or not, any numbers and any buffer, by the contracts that their code is proved
--- to meet; nothing is asked of the caller.
+-- Annex 7.1, 11.10, 12.1, 12.3: all four calls, by value and over a lent planner, on any planner, sound or not, any numbers and any buffer, by the
+-- contracts that their code is proved to meet, and the other calls likewise; nothing is asked of the caller.
 pub record Demand1 : Type 1 where
   pub open-meets : (s : Setting) (r : Changed) → IsOpened s r → OpenMeets s r
   pub add-meets : (p : Planner) (o : Offer) (r : Changed) → IsAdd p o r → AddMeets p o r
   pub remove-meets : (p : Planner) (id : ℕ) (r : Changed) → IsRemove p id r → RemoveMeets p id r
   pub round-meets : (p : Planner) (before after : List ℕ) (r : Rounded) → IsRound p before after r → RoundMeets p before after r
+  pub lent-open-meets : (s : Setting) (after : Planner) (r : ℕ) → IsLentOpen s after r → OpenMeets s (record { answer = r; planner = after })
+  pub lent-add-meets : (before : Planner) (o : Offer) (after : Planner) (r : ℕ) → IsLentAdd before o after r
+      → AddMeets before o (record { answer = r; planner = after })
+  pub lent-remove-meets : (before : Planner) (id : ℕ) (after : Planner) (r : ℕ) → IsLentRemove before id after r
+      → RemoveMeets before id (record { answer = r; planner = after })
+  pub lent-round-meets : (before : Planner) (buffer written : List ℕ) (after : Planner) (r : Held) → IsLentRound before buffer written after r
+      → RoundMeets before buffer written (record { answer = r .answer; planner = after; start = r .start; n = r .n })
+  pub others : OtherCallsMeet

@@ -15,13 +15,14 @@ use Rattle.packets.specs.declared.Header.{Header}
 abbrev pub HasLength : List ℕ → Type 0
 HasLength p = (6 ≤ length p) × (length p ≡ 6 + 2 * getD p 5 0)
 
--- whether it is right can be decided
-decide-length : (p : List ℕ) → Dec (HasLength p)
-decide-length p = Dec·and (decLe 6 (length p)) (ℕ-discrete (length p) (6 + 2 * getD p 5 0))
-
 -- Annex 10.6: 26 if the length is not right.
 abbrev pub wrong-length : List ℕ → Refusal
-wrong-length p = record { number = 26; Applies = HasLength p → ⊥; decided = Dec·not (decide-length p) }
+wrong-length p =
+    record {
+      number = 26;
+      Applies = HasLength p → ⊥;
+      decided = Dec·not (Dec·and (decLe 6 (length p)) (ℕ-discrete (length p) (6 + 2 * getD p 5 0)));
+    }
 
 -- Annex 10.6: 27 if the bytes are those of no good values.
 abbrev pub bad-value : List ℕ → Refusal

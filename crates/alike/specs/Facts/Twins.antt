@@ -77,8 +77,9 @@ module _ {p q : Planner} (twins : AreTwins p q) where
       -- has the same answer ..
       pub change-answers : r .answer ≡ s .answer
       change-answers =
-          let alike = λ (_ : Sound p) (_ : Sound q) (same : content p ≡ content q). ap (λ (h : Content). answer-of (rest h)) same in
-          is .answer ∙ twins-answer twins (rest (content p)) (rest (content q)) alike ∙ sym (is′ .answer)
+          is .answer
+          ∙ twins-answer twins (rest (content p)) (rest (content q)) (λ one other same. ap (λ (h : Content). answer-of (rest h)) same)
+          ∙ sym (is′ .answer)
 
       -- .. and leaves twins
       pub change-twins : AreTwins (r .planner) (s .planner)

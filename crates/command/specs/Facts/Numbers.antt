@@ -31,7 +31,7 @@ begins {bytes = bytes} {n = n} start i some before =
       value = begun .value;
       numeral = rw (take-take i n bytes at-most) at (begun .numeral);
       positive = begun .positive;
-      smaller = begun .no-larger;
+      no-larger = begun .no-larger;
     }
 
 -- where a number ends no digit stands, and 10 says so

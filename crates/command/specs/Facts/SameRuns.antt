@@ -14,7 +14,8 @@ use Rattle.command.specs.Step.{IsStep}
 use Rattle.command.specs.Runs.{part-of, Reaches, HasRun, HasRunLast}
 use Rattle.command.specs.Runs.Reaches.{none, one-more}
 use Rattle.command.specs.Script.{IsScript, IsSameOutput}
-use Rattle.command.specs.Facts.Puts.{put-length, put-written}
+use Rattle.command.specs.Facts.Puts.{put-written}
+use Rattle.command.specs.Facts.Inside.{run-length}
 use Rattle.command.specs.Facts.SameAnswers.{same-step}
 use Rattle.command.specs.declared.lines.Reached.{Reached}
 use Rattle.command.specs.declared.step.Step.{Step}
@@ -48,13 +49,7 @@ level-back level =
       buffer = λ same. sym (level .buffer (sym same));
     }
 
--- a run keeps the buffer's length, and its line numbers grow
-run-length : {bytes out w : List ℕ} {s t : Reached} → Reaches bytes s out t w → length w ≡ length out
-run-length none = refl
-run-length (one-more {t} run to line-end inside room after r is) =
-    let so-far = run-length run in
-    put-length (is .written) (omega (arith, is .room)) ∙ so-far
-
+-- line numbers grow in a run
 number-grows : {bytes out w : List ℕ} {s t : Reached} → Reaches bytes s out t w → s .number ≤ t .number
 number-grows {s = s} none = omega arith
 number-grows (one-more run to line-end inside room after r is) = omega (arith, number-grows run)

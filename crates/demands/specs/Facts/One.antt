@@ -1,24 +1,52 @@
 -- Demand 1 is met.
 use mathlib.Core.Path.{_≡_, sym, _∙_}
-use Rattle.planner.specs.Open.{zeros, opened, IsFresh}
+use mathlib.Core.List.{List}
+use Prim.Native.Nat.{ℕ}
+use Rattle.planner.specs.Open.{Setting, zeros, opened, IsFresh, IsOpened}
+use Rattle.planner.specs.AddRemove.{Offer, IsAdd, IsRemove}
+use Rattle.planner.specs.Round.{IsRound}
 use Rattle.planner.specs.Facts.Open.{open-success-is-sound, closed-is-not-sound}
 use Rattle.planner.specs.Facts.Calls.{answers-first, refused-change, change-keeps-sound, refused-round, round-keeps-sound}
-use Rattle.demands.specs.One.{Demand1}
+use Rattle.planner.specs.declared.Planner.{Planner}
+use Rattle.planner.specs.declared.Changed.{Changed}
+use Rattle.planner.specs.declared.Rounded.{Rounded}
+use Rattle.demands.specs.One.{OpenMeets, AddMeets, RemoveMeets, RoundMeets, Demand1}
+use Rattle.demands.specs.Facts.OtherCalls.{other-calls-meet}
 
--- Annex 12.2, 12.3: the contracts of the four calls meet demand 1.
+-- open, of what it hands back
+open-meets-it : (s : Setting) (r : Changed) → IsOpened s r → OpenMeets s r
+open-meets-it s r is =
+    let refused : (r .answer ≡ 0 → ⊥) → IsFresh zeros (r .planner) = λ nonzero. is .closed (λ zero. nonzero (is .answer ∙ zero)) in
+    record {
+      answer = answers-first (is .answer);
+      sound = open-success-is-sound s r is;
+      opened = λ zero. is .opened (sym (is .answer) ∙ zero) .holds;
+      closed = refused;
+      not-sound = λ nonzero. closed-is-not-sound (r .planner) (refused nonzero);
+    }
+
+-- add, remove and round likewise
+add-meets-it : (p : Planner) (o : Offer) (r : Changed) → IsAdd p o r → AddMeets p o r
+add-meets-it p o r is = record { answer = answers-first (is .answer); unchanged = refused-change is; sound = change-keeps-sound is }
+
+remove-meets-it : (p : Planner) (id : ℕ) (r : Changed) → IsRemove p id r → RemoveMeets p id r
+remove-meets-it p id r is = record { answer = answers-first (is .answer); unchanged = refused-change is; sound = change-keeps-sound is }
+
+round-meets-it : (p : Planner) (before after : List ℕ) (r : Rounded) → IsRound p before after r → RoundMeets p before after r
+round-meets-it p before after r is = record { answer = answers-first (is .answer); unchanged = refused-round is; sound = round-keeps-sound is }
+
+-- Annex 12.2, 12.3: the contracts of all calls meet demand 1: of the four, over a lent planner the same, and of the others
 pub demand-1 : Demand1
 demand-1 =
     record {
-      open-meets = λ s r is.
-          let refused : (r .answer ≡ 0 → ⊥) → IsFresh zeros (r .planner) = λ nonzero. is .closed (λ zero. nonzero (is .answer ∙ zero)) in
-          record {
-            answer = answers-first (is .answer);
-            sound = open-success-is-sound s r is;
-            opened = λ zero. is .opened (sym (is .answer) ∙ zero) .holds;
-            closed = refused;
-            not-sound = λ nonzero. closed-is-not-sound (r .planner) (refused nonzero);
-          };
-      add-meets = λ p o r is. record { answer = answers-first (is .answer); unchanged = refused-change is; sound = change-keeps-sound is };
-      remove-meets = λ p id r is. record { answer = answers-first (is .answer); unchanged = refused-change is; sound = change-keeps-sound is };
-      round-meets = λ p before after r is. record { answer = answers-first (is .answer); unchanged = refused-round is; sound = round-keeps-sound is };
+      open-meets = open-meets-it;
+      add-meets = add-meets-it;
+      remove-meets = remove-meets-it;
+      round-meets = round-meets-it;
+      lent-open-meets = λ s after r is. open-meets-it s (record { answer = r; planner = after }) is;
+      lent-add-meets = λ before o after r is. add-meets-it before o (record { answer = r; planner = after }) is;
+      lent-remove-meets = λ before id after r is. remove-meets-it before id (record { answer = r; planner = after }) is;
+      lent-round-meets = λ before buffer written after r is.
+          round-meets-it before buffer written (record { answer = r .answer; planner = after; start = r .start; n = r .n }) is;
+      others = other-calls-meet;
     }

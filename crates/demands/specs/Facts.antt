@@ -1,6 +1,8 @@
 -- What is proved of the definitions beside this folder; a reader may believe it unread.
 pub mod CallLists
+pub mod EndlessRounds
 pub mod Held
+pub mod Kept
 pub mod TestedCases
 pub mod OtherCalls
 pub mod One
@@ -9,4 +11,4 @@ pub mod Three
 pub mod Packets
 pub mod StarredCases
 pub mod ForcedRounds
-pub mod OwnRounds
+pub mod Reached

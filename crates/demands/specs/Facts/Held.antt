@@ -1,27 +1,26 @@
 -- What a list of calls comes to: lazy rounds one after the other, after which the planner holds what the ids in the buffers say.
 use mathlib.Core.Path.{_≡_, refl, sym, ap, subst, subst⁻¹, _∙_}
-use mathlib.Core.Logic.{⊎-elim, ∥∥₁-map}
-use mathlib.Core.List.{List, [], _∷_, _++_, List·Mem, List·Nodup, map, map-id, map-map, map-append, map-congr-left, mem-map-of-mem, append-assoc}
-use Prim.Native.Nat.{ℕ, _+_, _-_, _*_, _≤_, _<_}
-use native.Mathlib.Nat.{lt-irrefl, lt-of-lt-of-le}
+use mathlib.Core.Logic.{⊎-elim, Or·elim, ∥∥₁-map, ∥∥₁-elim}
+use mathlib.Core.List.{List, [], _∷_, _++_, append-assoc, map, map-id, map-map, map-append, map-congr-left}
+use mathlib.Core.List.{List·Mem, List·Mem-prop, List·Nodup, mem-map, mem-map-of-mem, mem-append, eq-or-mem-of-mem-cons, not-mem-nil}
+use Prim.Native.Nat.{ℕ, _+_, _*_, _≤_, _<_}
 use native.Mathlib.Decide.{decLt}
 use native.Mathlib.Omega.{arith}
-use lib.ListN.{length, take, drop}
+use lib.ListN.{take, drop}
 use lib.Seq.{take-at}
-use Rattle.rules.specs.Streams.{Stream, Packet, packet, MayRide, PacketOf}
+use Rattle.rules.specs.Streams.{Stream, Packet, packet, MayRide}
 use Rattle.rules.specs.Slots.{slots, served, Served}
 use Rattle.rules.specs.Plans.{Round}
-use Rattle.rules.specs.Runs.{State, Held, none, then, round-at, after}
-use Rattle.rules.specs.Ready.{Fits, IsReadyState}
+use Rattle.rules.specs.Runs.{Held, none, then, round-at, after}
 use Rattle.rules.specs.Facts.Slots.{IsChoice, choice-differ}
 use Rattle.rules.specs.Facts.RoundKept.{round-choice, served-iff}
-use Rattle.rules.specs.Facts.Packets.{advanced, advanced-none, packet-advanced, packet-due-after}
-use Rattle.rules.specs.Facts.Fewest.{held-fewest}
+use Rattle.rules.specs.Facts.Packets.{advanced, advanced-none, packet-advanced}
 use Rattle.table.specs.Table.{stream-of}
+use Rattle.table.specs.Changes.{HasId}
 use Rattle.table.specs.declared.Record.{Record}
 use Rattle.planner.specs.Content.{Content, content, slots-of, streams-in, now-of, cap-of, start-gap-of, with-table, with-last}
 use Rattle.planner.specs.Sound.{ContentSound, Sound}
-use Rattle.planner.specs.Facts.Sound.{all-formed, content-ready}
+use Rattle.planner.specs.Facts.Sound.{content-ready}
 use Rattle.planner.specs.Facts.Kept.{sent-at, seen-sent-at, rounded-streams}
 use Rattle.planner.specs.Round.{ids-at, rounded, IsHeldRound}
 use Rattle.planner.specs.Start.{IsStart, StartsLate}
@@ -29,9 +28,9 @@ use Rattle.planner.specs.Facts.Calls.{refused-change, refused-round, success-ro
 use Rattle.planner.specs.declared.Planner.{Planner}
 use Rattle.planner.specs.declared.Rounded.{Rounded}
 use Rattle.demands.specs.CallLists.{Calls, none, asked, refused, held, ClockEnded}
-use Rattle.demands.specs.CallLists.{HeldRound, held-round, times-in, times-sent, IsSentInTime, end-of, start-of}
-use Rattle.demands.specs.Rivals.{IsRivalOf}
-use Rattle.demands.specs.Facts.CallLists.{same-starts, stands-once, stands-never, times-sent-snoc, passes-as-sent, last-of, last-snoc, last-is-end}
+use Rattle.demands.specs.CallLists.{HeldRound, held-round, times-in, times-sent, IsSentInTime}
+use Rattle.demands.specs.Facts.CallLists.{stands-once, stands-never, times-sent-snoc, passes-as-sent, last-of, last-snoc}
+use Rattle.demands.specs.Facts.EndlessRounds.{state-of}
 
 -- a stream with the packets sent that the rounds say
 abbrev pub sent-in : List HeldRound → Stream → Stream
@@ -47,23 +46,21 @@ abbrev pub after-rounds : Content → List HeldRound → Content
 after-rounds h rounds = with-table (with-last h (last-of (h .last) rounds)) (map (record-sent rounds) (h .table))
 
 -- and what the rules see of it
-seen-after : (h : Content) (rounds : List HeldRound) → streams-in (after-rounds h rounds) ≡ map (sent-in rounds) (streams-in h)
+pub seen-after : (h : Content) (rounds : List HeldRound) → streams-in (after-rounds h rounds) ≡ map (sent-in rounds) (streams-in h)
 seen-after h rounds = map-map stream-of (record-sent rounds) (h .table) ∙ sym (map-map (sent-in rounds) stream-of (h .table))
 
 -- the round at s of the lazy rule's slots
 abbrev pub slots-round : Content → ℕ → HeldRound
 slots-round h s = record { start = s; ids = ids-at h s }
 
-abbrev pub state-of : Content → State
-state-of h = record { now = now-of h; cap = cap-of h; table = streams-in h }
-
--- c is what h has become by these rounds, each of them lazy, and whatever they sent was in time
+-- c is what h has become by these rounds, each of them lazy; whatever they sent was in time, and every id in them is that of a record of h
 pub record Follows (h : Content) (rounds : List HeldRound) (c : Content) : Type 0 where
   pub holds : c ≡ after-rounds h rounds
   pub played : List Round
   pub lazy : Held (slots-of h) (start-gap-of h) (state-of h) played (state-of c)
   pub starts : map (λ (r : Round). r .start) played ≡ map (λ (r : HeldRound). r .start) rounds
   pub in-time : (s : Stream) → List·Mem s (streams-in h) → (m : ℕ) → m < times-sent (s .number) rounds → IsSentInTime rounds s m
+  pub of-streams : (r : HeldRound) → List·Mem r rounds → (id : ℕ) → List·Mem id (r .ids) → HasId id (h .table)
 
 -- records that the rules see alike are equal
 same-seen : {q r : Record} → stream-of q ≡ stream-of r → q ≡ r
@@ -82,6 +79,7 @@ no-rounds h =
       lazy = none;
       starts = refl;
       in-time = λ s m k below. absurd (omega arith);
+      of-streams = λ r there. absurd (not-mem-nil there);
     }
 
 module _ (h : Content) (rounds : List HeldRound) (sound : ContentSound (after-rounds h rounds)) (s : ℕ) (start : IsStart (after-rounds h rounds) s) where
@@ -115,6 +113,16 @@ module _ (h : Content) (rounds : List HeldRound) (sound : ContentSound (after-ro
 
   still-there : (x : Stream) → List·Mem x (streams-in h) → List·Mem (sent-in rounds x) (streams-in so-far)
   still-there x there = subst⁻¹ (List·Mem (sent-in rounds x)) (seen-after h rounds) (mem-map-of-mem (sent-in rounds) there)
+
+  -- every id in the round is that of a record where the list began
+  ids-are-held : (id : ℕ) → List·Mem id (ids-at so-far s) → HasId id (h .table)
+  ids-are-held id listed =
+      let numbers : map (λ (x : Stream). x .number) (streams-in so-far) ≡ map (λ (r : Record). r .id) (h .table) =
+      map-map (λ (x : Stream). x .number) stream-of (so-far .table) ∙ map-map (λ (r : Record). r .id) (record-sent rounds) (h .table) in
+      subst (List·Mem id) numbers
+      (∥∥₁-elim (mem-map .0 listed) List·Mem-prop (λ (x, slot, same).
+      subst (λ (n : ℕ). List·Mem n (map (λ (x : Stream). x .number) (streams-in so-far))) same
+      (mem-map-of-mem (λ (x : Stream). x .number) (is-choice .inside x slot))))
 
   -- what an id in the round sends may ride
   sent-rides : (x : Stream) → List·Mem x (streams-in h) → (m : ℕ) → times-sent (x .number) rounds ≤ m
@@ -152,6 +160,10 @@ module _ (h : Content) (rounds : List HeldRound) (sound : ContentSound (after-ro
             ∙ sym (map-append (λ (r : HeldRound). r .start) rounds (slots-round so-far s ∷ []));
         in-time = λ x there m below.
             go x there m (rw (times-sent-snoc (x .number) rounds (slots-round so-far s)) at below) (decLt m (times-sent (x .number) rounds));
+        of-streams = λ r there id listed.
+            Or·elim List·Mem-prop (mem-append .0 there) (λ earlier. follows .of-streams r earlier id listed)
+            (λ last. Or·elim List·Mem-prop (eq-or-mem-of-mem-cons last)
+            (λ same. ids-are-held id (subst (λ (x : HeldRound). List·Mem id (x .ids)) same listed)) (λ none. absurd (not-mem-nil none)));
       }
     where
       go : (x : Stream) → List·Mem x (streams-in h) → (m : ℕ) → m < times-sent (x .number) rounds + times-in (x .number) (ids-at so-far s)
@@ -209,33 +221,3 @@ clock-stays (refused {q} calls before after r is nonzero) ended =
     subst⁻¹ StartsLate (refused-round is nonzero .planner)
     (⊎-elim (λ seventeen. seventeen-is-late q before (sym (is .answer) ∙ seventeen)) (λ earlier. clock-stays calls earlier) ended)
 clock-stays (held {q} calls before after r is zero) ended = absurd (held-is-not-late q before (sym (is .answer) ∙ zero) (clock-stays calls ended))
-
-module _ (h : Content) (rounds : List HeldRound) (c : Content) (follows : Follows h rounds c) where
-  -- where everything fits at x in the end, every packet due by x has been sent in time
-  pub sent-unless-later : ContentSound c → (x : ℕ) → Fits (slots-of c) x (streams-in c) → (s : Stream) → List·Mem s (streams-in h)
-      → (m : ℕ) → packet s m .due ≤ x → IsSentInTime rounds s m
-  sent-unless-later sound x fits s there m early = go (decLt m (times-sent (s .number) rounds))
-    where
-      go : Dec (m < times-sent (s .number) rounds) → IsSentInTime rounds s m
-      go (yes sent) = follows .in-time s there m sent
-      go (no waiting) =
-          let k = times-sent (s .number) rounds in
-          let rest : k + (m - k) ≡ m = omega arith in
-          let waits : PacketOf (streams-in c) (packet s m) =
-          subst⁻¹ (λ (ss : List Stream). PacketOf ss (packet s m)) (ap streams-in (follows .holds) ∙ seen-after h rounds)
-          ∣ (sent-in rounds s, mem-map-of-mem (sent-in rounds) there, (m - k, sym (packet-advanced s k (m - k) ∙ ap (packet s) rest))) ∣₁ in
-          absurd (lt-irrefl x (lt-of-lt-of-le (packet-due-after (slots-of c) x (streams-in c) (all-formed c sound) fits (packet s m) waits) early))
-
-  -- now is the end of the last round
-  pub now-is-end : now-of c ≡ end-of (now-of h) rounds
-  now-is-end = ap now-of (follows .holds) ∙ last-is-end (h .last) rounds
-
-  -- no rival starts a round later
-  pub rival-never-later : ContentSound h → (plan : ℕ → Round) → IsRivalOf h plan → (k : ℕ) → k < length rounds
-      → plan k .start ≤ start-of rounds k
-  rival-never-later sound plan rival k below =
-      let ready : IsReadyState (slots-of h) (state-of h) = record { ready = content-ready h sound; open-cap = omega arith } in
-      let (many, same) = same-starts (follows .played) rounds (follows .starts) in
-      subst (λ (x : ℕ). plan k .start ≤ x) (same k)
-      (held-fewest (slots-of h) (start-gap-of h) (sound .in-range .slots .0) (omega arith) (state-of h) ready plan rival (follows .lazy) k
-      (subst⁻¹ (λ (n : ℕ). k < n) many below))

@@ -14,7 +14,8 @@ use Rattle.planner.specs.declared.Planner.{Planner}
 use Rattle.demands.specs.CallLists.{HeldRound, Calls, start-of}
 use Rattle.demands.specs.Rivals.{KeepsGapOf}
 use Rattle.demands.specs.Facts.ForcedRounds.{rival-without-streams}
-use Rattle.demands.specs.Facts.Held.{calls-follow, clock-stays, sent-unless-later, now-is-end, rival-never-later}
+use Rattle.demands.specs.Facts.Held.{calls-follow, clock-stays}
+use Rattle.demands.specs.Facts.Kept.{sent-unless-later, now-is-end, rival-never-later}
 use Rattle.demands.specs.Three.{Demand3}
 
 -- Annex 12.10, 12.11, 12.12, 12.13: the contracts of add, remove and round meet demand 3.
@@ -34,6 +35,7 @@ demand-3 p sound rounds q calls =
           sent start (lazy-fits (slots-of left) (cap-of left) (streams-in left) positive start lazy) s there m (omega (arith, early, late));
       fewest = rival-never-later (content p) rounds (content q) follows (sound .content-sound);
       none-wasted = follows .in-time;
+      of-streams = follows .of-streams;
     }
 
 -- Annex 12.14: with no stream every plan from now that keeps the gap limit is a rival, so none of them holds its k-th round later.

@@ -1,4 +1,4 @@
--- The planner's own lazy rounds, held for ever, are a rival: fewest rounds speaks of some plan, and the bound is reached.
+-- The rounds that a list of calls holds are the first of the planner's own rounds for ever, so that the bound of fewest rounds is reached.
 use mathlib.Core.Path.{_≡_, refl, sym, ap, subst, _∙_}
 use mathlib.Core.List.{List, [], _∷_, _++_}
 use Prim.Native.Nat.{ℕ, suc, _≤_, _<_}
@@ -10,20 +10,17 @@ use lib.ListN.{length, length-append, List·getD-append}
 use lib.Seq.{getD-append-seam}
 use Rattle.rules.specs.Demand.{IsLazyStart}
 use Rattle.rules.specs.Plans.{Round}
-use Rattle.rules.specs.Runs.{State, Held, none, then, round-at, state-at, IsLazyRun, run-plan}
+use Rattle.rules.specs.Runs.{State, Held, none, then, round-at, state-at, IsLazyRun}
 use Rattle.rules.specs.Runs
-use Rattle.rules.specs.Ready.{IsReadyState}
 use Rattle.rules.specs.Facts.LazyStart.{lazy-unique}
-use Rattle.rules.specs.Facts.LazyRun.{lazy-starts, lazy-run-exists}
-use Rattle.rules.specs.Facts.LazyServes.{lazy-is-plan, lazy-serves, lazy-keeps-gap}
-use Rattle.planner.specs.Content.{Content, content, slots-of, start-gap-of}
-use Rattle.planner.specs.Sound.{ContentSound, Sound}
-use Rattle.planner.specs.Facts.Sound.{content-ready, frame-is-busy}
+use Rattle.planner.specs.Content.{content, slots-of, start-gap-of}
+use Rattle.planner.specs.Sound.{Sound}
 use Rattle.planner.specs.declared.Planner.{Planner}
 use Rattle.demands.specs.CallLists.{HeldRound, Calls, start-of}
 use Rattle.demands.specs.Rivals.{IsRivalOf}
 use Rattle.demands.specs.Facts.CallLists.{same-starts}
-use Rattle.demands.specs.Facts.Held.{state-of, calls-follow}
+use Rattle.demands.specs.Facts.EndlessRounds.{state-of, own-starts, own-rounds, own-lazy, own-is-rival}
+use Rattle.demands.specs.Facts.Held.{calls-follow}
 
 -- lazy rounds that were held are the first of those for ever
 held-is-run : (b gap : ℕ) (st : State) (starts : ℕ → ℕ) → IsLazyRun b gap st starts → {rounds : List Round} {at : State} → Held b gap st rounds at
@@ -49,36 +46,7 @@ held-is-run b gap st starts lazy (then {rounds} {at} held s is) =
         let last : k ≡ length rounds = omega arith in
         rw last (ap (λ (r : Round). r .start) (getD-append-seam rounds (round-at b at s) [] (record { start = 0; packets = [] })) ∙ start)
 
--- The starts of the lazy rounds of what a planner holds, for ever; they are found up to its superframe ..
-abbrev own-starts : Content → ℕ → ℕ
-own-starts h = lazy-starts (slots-of h) (start-gap-of h) (h .frame) (state-of h)
-
--- .. and those rounds as a plan.
-abbrev own-rounds : Content → ℕ → Round
-own-rounds h = run-plan (slots-of h) (start-gap-of h) (state-of h) (own-starts h)
-
-module _ (h : Content) (sound : ContentSound h) where
-  ready : IsReadyState (slots-of h) (state-of h)
-  ready = record { ready = content-ready h sound; open-cap = omega arith }
-
-  own-lazy : IsLazyRun (slots-of h) (start-gap-of h) (state-of h) (own-starts h)
-  own-lazy = lazy-run-exists (slots-of h) (start-gap-of h) (h .frame) (sound .in-range .slots .0) (omega arith) (state-of h) ready (frame-is-busy h sound)
-
-  -- a sound planner's own rounds are a rival ..
-  own-is-rival : IsRivalOf h (own-rounds h)
-  own-is-rival =
-      let positive = sound .in-range .slots .0 in
-      record {
-        is-plan = lazy-is-plan (slots-of h) (start-gap-of h) positive (omega arith) (state-of h) ready (own-starts h) own-lazy;
-        serves = lazy-serves (slots-of h) (start-gap-of h) positive (omega arith) (state-of h) ready (own-starts h) own-lazy;
-        keeps-gap = lazy-keeps-gap (slots-of h) (start-gap-of h) positive (omega arith) (state-of h) ready (own-starts h) own-lazy;
-      }
-
--- Annex 12.22: .. so that every sound planner has one
-pub has-rival : (p : Planner) → Sound p → (plan : ℕ → Round) × IsRivalOf (content p) plan
-has-rival p sound = (own-rounds (content p), own-is-rival (content p) (sound .content-sound))
-
--- Annex 12.22: .. whose k-th round starts when the k-th held one does, whatever calls are made: no rival holds one later, and this one holds it then
+-- Annex 12.22: a rival whose k-th round starts when the k-th held one does, whatever calls are made: no rival holds one later, and this one holds it then
 pub fewest-is-reached : (p : Planner) → Sound p
     → (plan : ℕ → Round) × (IsRivalOf (content p) plan
     × ((rounds : List HeldRound) (q : Planner) → Calls p rounds q → (k : ℕ) → k < length rounds → plan k .start ≡ start-of rounds k))

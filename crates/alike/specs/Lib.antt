@@ -1,3 +1,3 @@
--- Planners that hold the same answer alike. A reader has to believe Twins; Facts proves it.
+-- Planners that hold the same answer alike. A reader has to believe Twins. Facts proves it.
 pub mod Twins
 pub mod Facts

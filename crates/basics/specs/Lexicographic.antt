@@ -8,7 +8,7 @@ use native.Mathlib.Decide.{decLt, ℕ-discrete}
 abbrev pub Then : ℕ → ℕ → Type 0 → Type 0
 Then a b Rest = (a < b) ⊎ ((a ≡ b) × Rest)
 
--- Such an order can be decided if the rest can.
+-- Annex 5.2, 8.2: such an order can be decided if the rest can.
 pub decide-then : (a b : ℕ) {R : Type 0} → Dec R → Dec (Then a b R)
 decide-then a b {R} rest = go (decLt a b) (ℕ-discrete a b) rest
   where

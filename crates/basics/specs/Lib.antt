@@ -1,9 +1,10 @@
--- Notions that several crates share, and in Facts what is proved of them.
-pub mod Decides
+-- Notions that several crates share. A reader has to believe Refusals, Lexicographic and Limits. The others are what inner functions promise one
+-- another, and Facts is proved.
 pub mod Refusals
-pub mod Below
 pub mod Lexicographic
+pub mod Limits
+pub mod Decides
+pub mod Below
 pub mod Places
 pub mod NewIds
-pub mod Limits
 pub mod Facts

@@ -1,4 +1,5 @@
--- The command program's lines. A reader has to believe Text and Commands; the others are what inner functions promise one another, and Facts is proved.
+-- The command program's lines. A reader has to believe Text, Commands, Answers, Puts, Step, Lines, Runs and Script. Reads is what inner functions
+-- promise one another, and Facts is proved.
 pub mod Text
 pub mod Commands
 pub mod Puts

@@ -5,7 +5,7 @@ use Prim.Native.Nat.{ℕ, _+_}
 use lib.ListN.{length, take, drop}
 use Rattle.command.specs.Text.{IsWritten}
 
--- Bytes with a property stand in the buffer from `at` to r; all other places are as they were.
+-- Annex 11.21, 11.24: bytes with a property stand in the buffer from `at` to r; all other places are as they were.
 pub record IsPut (P : List ℕ → Type 0) (before after : List ℕ) (at r : ℕ) : Type 0 where
   pub bytes : List ℕ
   pub property : P bytes

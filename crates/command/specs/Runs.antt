@@ -9,12 +9,12 @@ use Rattle.command.specs.Step.{IsStep}
 use Rattle.command.specs.declared.lines.Reached.{Reached}
 use Rattle.command.specs.declared.step.Step.{Step}
 
--- The bytes from one place up to another.
+-- Annex 11.1: the bytes from one place up to another.
 abbrev pub part-of : List ℕ → ℕ → ℕ → List ℕ
 part-of bytes from to = take (to - from) (drop from bytes)
 
--- Each line is the part up to the next byte 10, has the next number, gets the planner that the one before left, and is answered as IsStep says. It
--- is run only with room for 1,430 bytes more.
+-- Annex 11.11, 11.24: each line is the part up to the next byte 10, has the next number, gets the planner that the one before left, and is answered
+-- as IsStep says. It is run only with room for 1,430 bytes more.
 pub data Reaches (bytes : List ℕ) (s : Reached) (out : List ℕ) : Reached → List ℕ → Type 0 where
   none : Reaches bytes s out s out
   one-more : {t : Reached} {written : List ℕ} → Reaches bytes s out t written
@@ -22,7 +22,7 @@ pub data Reaches (bytes : List ℕ) (s : Reached) (out : List ℕ) : Reached →
       → IsStep (t .planner) (t .number + 1) (part-of bytes (t .from) to) written after (t .end) r
       → Reaches bytes s out (record { planner = r .planner; number = t .number + 1; from = to + 1; end = r .end }) after
 
--- What running lines relies on: places within the input and the buffer, and line numbers that cannot wrap.
+-- Annex 11.3, 11.24: what running lines relies on: places within the input and the buffer, and line numbers that cannot wrap.
 pub record CanRun (s : Reached) (bytes out : List ℕ) : Type 0 where
   pub in-input : s .from ≤ length bytes
   pub in-buffer : s .end ≤ length out
@@ -44,11 +44,3 @@ pub record HasRunLast (s : Reached) (bytes before after : List ℕ) (r : Reached
       → (step : Step) × (IsStep (s .planner) (s .number + 1) (drop (s .from) bytes) before after (s .end) step
       × (r ≡ record { planner = step .planner; number = s .number + 1; from = length bytes; end = step .end }))
   pub in-buffer : r .end ≤ length before
-
--- what holds at the head of a turn
-pub record Running (s : Reached) (bytes before after : List ℕ) (t : Reached) : Type 0 where
-  pub reaches : Reaches bytes s before t after
-  pub in-input : t .from ≤ length bytes
-  pub in-buffer : t .end ≤ length before
-  pub counts : t .number + s .from ≤ s .number + t .from
-  pub long : length after ≡ length before

@@ -26,9 +26,9 @@ AsksForOpen (Remove id) = Unit {0}
 AsksForOpen Round = Unit {0}
 AsksForOpen Malformed = ⊥
 
--- Annex 11.10: the bytes are the answer 5 to a command: `A,id,5`, `D,id,5` or `R,5`.
+-- Annex 11.10: the bytes are the answer 5 to a command: `O,5`, `A,id,5`, `D,id,5` or `R,5`; to a malformed line there is none.
 abbrev pub IsFive : Command → List ℕ → Type 0
-IsFive (Open b f g t) bytes = ⊥
+IsFive (Open b f g t) bytes = IsLine 79 (5 ∷ []) bytes
 IsFive (Add id s p d) bytes = IsLine 65 (id ∷ 5 ∷ []) bytes
 IsFive (Remove id) bytes = IsLine 68 (id ∷ 5 ∷ []) bytes
 IsFive Round bytes = IsLine 82 (5 ∷ []) bytes

@@ -33,7 +33,7 @@ pub data Transcript (p : Planner) : List ℕ → List ℕ → Planner → ℕ �
   next : {lines answers : List ℕ} {q : Planner} {n : ℕ} → Transcript p lines answers q n → (line answer : List ℕ) (after : Planner) → HasNoEnd line
       → IsAnswer q (n + 1) line answer after → Transcript p (lines ++ (line ++ (10 ∷ []))) (answers ++ answer) after (n + 1)
 
--- Of bytes that begin with 64 or more of one line, the first 64 of these are kept: a line of more than 63 bytes is malformed whatever it says.
+-- Annex 11.8: of bytes that begin with 64 or more of one line, the first 64 of these are kept: a line of more than 63 bytes is malformed whatever it says.
 pub record IsCut (kept rest : List ℕ) : Type 0 where
   pub line : List ℕ
   pub more : List ℕ

@@ -3,7 +3,8 @@
 ghost use mathlib.Core.Path.{_≡_};
 ghost use Prim.Native.Nat.{_≤_, _<_};
 ghost use lib.ListN.{length};
-ghost use Rattle.console.specs.Session.{IsBegun, CanAnswer, HasAnswered, CanAnswerLast, HasAnsweredLast, handed-over, IsMoved, CanKeep, IsKept, CanRefill, IsRefilled, IsTurned};
+ghost use Rattle.console.specs.Session.{CanKeep, CanRefill, IsTurned};
+ghost use Rattle.console.specs.Needs.{IsBegun, CanAnswer, HasAnswered, CanAnswerLast, HasAnsweredLast, handed-over, IsMoved, IsKept, IsRefilled};
 use command::Reached;
 
 mod system;

@@ -2,7 +2,7 @@
 ghost use Prim.Native.Nat.{_≤_};
 ghost use lib.ListN.{length};
 ghost use Rattle.libc.specs.Io.{Moved};
-ghost use Rattle.console.specs.Session.{IsDelivery};
+ghost use Rattle.console.specs.Needs.{IsDelivery};
 
 // How many bytes were read, and whether the input has ended. A read that failed delivers none and ends nothing.
 pub struct Delivery {

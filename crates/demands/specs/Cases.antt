@@ -11,14 +11,14 @@ use Rattle.planner.specs.declared.Planner.{Planner}
 use Rattle.planner.specs.declared.Changed.{Changed}
 use Rattle.planner.specs.declared.Rounded.{Rounded}
 
--- A line of a case: a call, and what it answers.
+-- Annex 12.21: a line of a case: a call, and what it answers.
 pub data Line : Type 0 where
   add-gives : Offer → (answer : ℕ) → Line
   remove-gives : (id answer : ℕ) → Line
   round-gives : (start n : ℕ) (ids : List ℕ) → Line
   round-refused : (answer : ℕ) → Line
 
--- Whatever results the calls have by their contracts, they are those of the lines. Each call gets the planner that the one before handed back,
+-- Annex 12.21: whatever results the calls have by their contracts, they are those of the lines. Each call gets the planner that the one before handed back,
 -- a round any buffer of at least B places.
 unfoldable pub Answers : Planner → List Line → Type 0
 Answers p [] = Unit {0}
@@ -30,7 +30,7 @@ Answers p (round-gives start n ids ∷ lines) =
 Answers p (round-refused answer ∷ lines) =
     (before after : List ℕ) (r : Rounded) → p .slots ≤ length before → IsRound p before after r → (r .answer ≡ answer) × Answers (r .planner) lines
 
--- A case: what open is passed, and the lines after it; or the periods passed to superframe, with the answer and the value.
+-- Annex 12.21: a case: what open is passed, and the lines after it; or the periods passed to superframe, with the answer and the value.
 pub data Case : Type 0 where
   planner-case : Setting → (lines : List Line) → Case
   superframe-case : (periods : List ℕ) (answer value : ℕ) → Case

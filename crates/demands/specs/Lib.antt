@@ -1,5 +1,5 @@
--- The three demands, a held round as a packet, and worked cases. A reader has to believe CallLists, Rivals and the statements of
--- One, Two, Three, Packets and Cases, with the definitions that they cite; Facts proves them.
+-- The three demands, a held round as a packet, and worked cases. A reader has to believe CallLists, Rivals, OtherCalls, One, Two, Three, Packets and
+-- Cases. Decide has deciders, and Facts proves what they state.
 pub mod CallLists
 pub mod Rivals
 pub mod Decide

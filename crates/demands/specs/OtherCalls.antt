@@ -23,10 +23,10 @@ use Rattle.packets.specs.declared.Header.{Header}
 use Rattle.command.specs.Script.{IsScript, StaysInside}
 use Rattle.demands.specs.Decide.{decide-none, decide-above}
 
--- Annex 12.2: a call with these refusals gave the first number that applies, else 0; and refused, it left all as it was, or gave nothing but zeros.
-pub record Meets (refusals : List Refusal) (answer : ℕ) (Nothing : Type 0) : Type 1 where
+-- Annex 12.2: a call with these refusals gave the first number that applies, else 0; and refused, it changed nothing: what that is, each call says.
+pub record Meets (refusals : List Refusal) (answer : ℕ) (Unchanged : Type 0) : Type 1 where
   pub first : FirstOf refusals answer
-  pub refused : (answer ≡ 0 → ⊥) → Nothing
+  pub refused : (answer ≡ 0 → ⊥) → Unchanged
 
 -- Annex 8.13, 8.14: 25 if there is no entry to give.
 abbrev pub none-found : List Entry → Refusal

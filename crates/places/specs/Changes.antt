@@ -3,6 +3,13 @@ use mathlib.Core.Path.{_≡_}
 use mathlib.Core.List.{List}
 use Prim.Native.Nat.{ℕ, _+_, _≤_, _<_}
 use lib.ListN.{getD}
+use mathlib.Core.List.{List}
+use Prim.Native.Nat.{ℕ, _≤_, _<_}
+
+-- f′ is f with the value v at x.
+pub record IsSet {A : Type 0} (f : ℕ → A) (x : ℕ) (v : A) (f′ : ℕ → A) : Type 0 where
+  pub at : f′ x ≡ v
+  pub elsewhere : (y : ℕ) → (y ≡ x → ⊥) → f′ y ≡ f y
 
 -- i is the place of an id among the 64, or 64 where no place has it.
 pub record IsPlaceOf (ids : List ℕ) (id i : ℕ) : Type 0 where

@@ -12,11 +12,6 @@ unfoldable pub collected : (at : ℕ → Entry) → ℕ → List Entry
 collected at zero = []
 collected at (suc i) = ite (decLe 1 (at i .id)) (put (at i) (collected at i)) (collected at i)
 
--- Ids differ from place to place.
+-- Annex 8.4: ids differ from place to place.
 abbrev pub Once : (ids : ℕ → ℕ) → Type 0
 Once ids = (i j : ℕ) → i < 64 → j < 64 → 1 ≤ ids i → ids i ≡ ids j → i ≡ j
-
--- f′ is f with the value v at x.
-pub record IsSet {A : Type 0} (f : ℕ → A) (x : ℕ) (v : A) (f′ : ℕ → A) : Type 0 where
-  pub at : f′ x ≡ v
-  pub elsewhere : (y : ℕ) → (y ≡ x → ⊥) → f′ y ≡ f y

@@ -29,15 +29,15 @@ filed-as id (e ∷ es) = ite (ℕ-discrete (e .id) id) e (filed-as id es)
 abbrev pub moved-on : ℕ → Entry → Entry
 moved-on amount e = record { key = e .key + amount; release = e .release + amount; id = e .id }
 
--- Some entry has the id.
+-- Annex 8.10, 8.11: some entry has the id: it is filed.
 abbrev pub Filed : ℕ → List Entry → Type 0
 Filed id es = ∥ ((e : Entry) × List·Mem e es × (e .id ≡ id)) ∥₁
 
--- The i-th of some entries that are given by their columns.
+-- Annex 3.11: the i-th of some entries that are given by their columns.
 abbrev pub row-of : (ids keys releases : List ℕ) → ℕ → Entry
 row-of ids keys releases i = record { key = getD keys i 0; release = getD releases i 0; id = getD ids i 0 }
 
--- The entries are just the first n of these rows.
+-- Annex 3.11: the entries are just the first n of these rows.
 abbrev pub FilesJust : (ids keys releases : List ℕ) → ℕ → List Entry → Type 0
 FilesJust ids keys releases n es = (e : Entry) → List·Mem e es ↔ ∥ ((i : ℕ) × (i < n) × (e ≡ row-of ids keys releases i)) ∥₁
 

@@ -1,4 +1,4 @@
--- Entries at 64 places, as plain arrays. A reader has to believe Order, Entries and Collected; Soundness, Changes and Filing are what functions
+-- Entries at 64 places, as plain arrays. A reader has to believe Order, Entries and Collected. Soundness, Changes and Filing are what functions
 -- promise a queue above, Decide has the deciders, and the rest is proved.
 pub mod Order
 pub mod Entries

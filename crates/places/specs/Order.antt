@@ -17,6 +17,6 @@ triple key release id = record { key = key; release = release; id = id }
 abbrev pub Before : Entry → Entry → Type 0
 Before a b = Then (a .key) (b .key) (Then (a .release) (b .release) (a .id < b .id))
 
--- It can be decided which of two entries comes first.
+-- Annex 8.2: it can be decided which of two entries comes first.
 pub before : (a b : Entry) → Dec (Before a b)
 before a b = decide-then (a .key) (b .key) (decide-then (a .release) (b .release) (decLt (a .id) (b .id)))

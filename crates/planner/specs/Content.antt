@@ -18,11 +18,11 @@ pub record Content : Type 0 where
 abbrev pub content : Planner → Content
 content p = record { slots = p .slots; frame = p .frame; gap = p .gap; last = p .last; table = records-of (p .table) }
 
--- What the rules see of the records.
+-- Annex 3.2: what the rules see of the records.
 abbrev pub streams-in : Content → List Stream
 streams-in h = as-streams (h .table)
 
--- The slots that a round has for streams: all B.
+-- Annex 5.3: the slots that a round has for streams: all B.
 abbrev pub slots-of : Content → ℕ
 slots-of h = h .slots
 
@@ -38,10 +38,10 @@ cap-of h = now-of h + h .gap
 abbrev pub start-gap-of : Content → ℕ
 start-gap-of h = h .gap + 1
 
--- The same numbers with another table.
+-- Annex 7.20, 7.23: the same numbers with another table.
 abbrev pub with-table : Content → List Record → Content
 with-table h rs = record { slots = h .slots; frame = h .frame; gap = h .gap; last = h .last; table = rs }
 
--- The same table and numbers with another last start.
+-- Annex 7.30: the same table and numbers with another last start.
 abbrev pub with-last : Content → ℕ → Content
 with-last h s = record { slots = h .slots; frame = h .frame; gap = h .gap; last = s; table = h .table }

@@ -1,4 +1,4 @@
--- The planner. A reader has to believe Content, Sound, Open, AddRemove, Start and Round; Needs is what inner functions promise one another,
+-- The planner. A reader has to believe Content, Sound, Open, AddRemove, Start and Round. Needs is what inner functions promise one another,
 -- Decide has the deciders, and the rest is proved.
 pub mod Content
 pub mod Sound

@@ -34,11 +34,11 @@ pub record Setting : Type 0 where
 abbrev pub setting : (slots frame gap last : ℕ) → Setting
 setting slots frame gap last = record { slots = slots; frame = frame; gap = gap; last = last }
 
--- The setting of the closed planner.
+-- Annex 3.12: the setting of the closed planner.
 abbrev pub zeros : Setting
 zeros = setting 0 0 0 0
 
--- What open would be passed to give a planner these numbers.
+-- Annex 7.7: what open would be passed to give a planner these numbers.
 abbrev pub setting-of : Content → Setting
 setting-of h = setting (h .slots) (h .frame) (h .gap) (h .last)
 
@@ -54,11 +54,11 @@ opened s = record { slots = s .slots; frame = s .frame; gap = s .gap; last = s .
 abbrev pub closed : Content
 closed = opened zeros
 
--- A table with no stream, and zeros at every place for one.
+-- Annex 3.12, 7.7: a table with no stream, and zeros at every place for one.
 abbrev pub no-streams : Table
 no-streams = record { count = 0; streams = replicate places no-record }
 
--- The planner with these numbers, no stream and this queue.
+-- Annex 3.12, 7.7: the planner with these numbers, no stream and this queue.
 abbrev pub fresh-with : Setting → Queue → Planner
 fresh-with s queue = record { slots = s .slots; frame = s .frame; gap = s .gap; last = s .last; table = no-streams; queue = queue }
 

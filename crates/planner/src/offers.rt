@@ -1,7 +1,7 @@
 // A stream offered to a planner: whether it is refused, and the planner that takes it in.
 ghost use mathlib.Core.Path.{_≡_};
 ghost use Rattle.basics.specs.Refusals.{answer-of};
-ghost use Rattle.table.specs.Changes.{HasRecords};
+ghost use Rattle.table.specs.Needs.{HasRecords};
 ghost use Rattle.planner.specs.Content.{content};
 ghost use Rattle.planner.specs.Sound.{Sound};
 ghost use Rattle.planner.specs.AddRemove.{offer, offer-refusals, rule-refusals, add-refusals, added, IsSoundWith};

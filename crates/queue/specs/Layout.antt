@@ -30,11 +30,11 @@ use Rattle.places.specs.Order.{Entry, Before}
 use Rattle.places.specs.Collected.{collected}
 use Rattle.queue.specs.declared.Queue.{Queue}
 
--- A queue of these ids, keys, releases and links.
+-- Annex 8.6, 8.7: a queue of these ids, keys, releases and links.
 abbrev pub queue-of : (ids keys releases next prev : List ℕ) → Queue
 queue-of ids keys releases next prev = record { ids = ids; keys = keys; releases = releases; next = next; prev = prev }
 
--- The n numbers from x on.
+-- Annex 8.8: the n numbers from x on.
 pub numbers-from : ℕ → ℕ → List ℕ
 numbers-from x zero = []
 numbers-from x (suc n) = x ∷ numbers-from (suc x) n
@@ -47,19 +47,23 @@ lone-heads = replicate 64 0 ++ numbers-from 64 480
 pub empty-queue : Queue
 empty-queue = queue-of (replicate 64 0) (replicate 64 0) (replicate 64 0) lone-heads lone-heads
 
--- The id, the key and the release at a place, and the links of a node.
+-- Annex 8.6: the id at a place ..
 abbrev pub id-at : Queue → ℕ → ℕ
 id-at q i = getD (q .ids) i 0
 
+-- Annex 8.6: .. its key ..
 abbrev pub key-at : Queue → ℕ → ℕ
 key-at q i = getD (q .keys) i 0
 
+-- Annex 8.6: .. and its release.
 abbrev pub release-at : Queue → ℕ → ℕ
 release-at q i = getD (q .releases) i 0
 
+-- Annex 8.7: the next of a node ..
 abbrev pub next-at : Queue → ℕ → ℕ
 next-at q x = getD (q .next) x 0
 
+-- Annex 8.7: .. and its prev.
 abbrev pub prev-at : Queue → ℕ → ℕ
 prev-at q x = getD (q .prev) x 0
 
@@ -83,7 +87,7 @@ IsNode ids x = ((x < 64) × (1 ≤ ids x)) ⊎ ((64 ≤ x) × (x < 544))
 abbrev pub bucket-of-key : ℕ → ℕ
 bucket-of-key key = key % 480
 
--- The bucket after a bucket, round the circle.
+-- Annex 8.6: the bucket after a bucket, round the circle.
 abbrev pub bucket-after : ℕ → ℕ
 bucket-after bucket = (bucket + 1) % 480
 
@@ -115,7 +119,7 @@ pub record Sound (q : Queue) : Type 0 where
   span : (i j : ℕ) → Holds q i → Holds q j → key-at q i ≤ key-at q j + 479
   links : AllLinked (entry-at q) (next-at q) (prev-at q)
 
--- An id is filed at this place.
+-- Annex 8.6: an id is filed at this place.
 pub record IsPlacedAt (q : Queue) (id place : ℕ) : Type 0 where
   holds : Holds q place
   has-id : id-at q place ≡ id

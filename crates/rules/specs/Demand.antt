@@ -28,7 +28,7 @@ DemandRule b ss = (t : ℕ) → 1 ≤ t → demand ss t ≤ b * t
 abbrev pub StartRule : ℕ → ℕ → List Stream → Type 0
 StartRule b now ss = (t : ℕ) → now < t → future ss t ≤ b * (t - now)
 
--- Every stream's unserved packet is due after now.
+-- Annex 3.8: every stream's unserved packet is due after now.
 abbrev pub DueAfter : ℕ → List Stream → Type 0
 DueAfter now ss = (s : Stream) → List·Mem s ss → now < due s
 

@@ -27,26 +27,26 @@ pub record IsSlots (b s : ℕ) (ss : List Stream) (qs : List Packet) : Type 0 wh
   pub first : (p q : Packet) → List·Mem p qs → IsRider s ss q → (List·Mem q qs → ⊥) → ComesBefore p q
   pub full : (q : Packet) → IsRider s ss q → (List·Mem q qs → ⊥) → length qs ≡ b
 
--- Whether a packet may ride can be decided.
+-- Annex 2.3: whether a packet may ride can be decided.
 abbrev pub may-ride : (q : Packet) (s : ℕ) → Dec (MayRide q s)
 may-ride q s = Dec·and (decLe (q .release) s) (decLe (s + 1) (q .due))
 
--- The streams whose unserved packet may ride in a round at s.
+-- Annex 5.5: the streams whose unserved packet may ride in a round at s.
 unfoldable pub riders : ℕ → List Stream → List Stream
 riders s ss = filter (λ (x : Stream). may-ride (packet x 0) s) ss
 
--- Whether the unserved packet of x goes before that of y, by due time, then release, then number.
+-- Annex 5.2: whether the unserved packet of x goes before that of y, by due time, then release, then number.
 unfoldable pub goes-before : Stream → Stream → Bool
 goes-before x y =
     ltb (due x) (due y)
     || (eqb (due x) (due y) && (ltb (x .release) (y .release) || (eqb (x .release) (y .release) && leb (x .number) (y .number))))
 
--- x put into its place in a list that is in that order.
+-- Annex 5.3: x put into its place in a list that is in that order.
 unfoldable pub put-in-order : Stream → List Stream → List Stream
 put-in-order x [] = x ∷ []
 put-in-order x (y ∷ ys) = cond (goes-before x y) (x ∷ y ∷ ys) (y ∷ put-in-order x ys)
 
--- The streams of a list in that order.
+-- Annex 5.3: the streams of a list in that order.
 unfoldable pub in-order : List Stream → List Stream
 in-order [] = []
 in-order (x ∷ xs) = put-in-order x (in-order xs)
@@ -55,19 +55,19 @@ in-order (x ∷ xs) = put-in-order x (in-order xs)
 unfoldable pub slots : ℕ → ℕ → List Stream → List Stream
 slots b s ss = take b (in-order (riders s ss))
 
--- The stream with its unserved packet sent: the next packet is released one period later.
+-- Annex 5.6: the stream with its unserved packet sent: the next packet is released one period later.
 abbrev pub next : Stream → Stream
 next x = record { number = x .number; period = x .period; deadline = x .deadline; release = x .release + x .period }
 
--- Whether a stream is among those served, told by its number.
+-- Annex 5.6: a stream is among those served, told by its number.
 abbrev pub Served : List Stream → Stream → Type 0
 Served chosen x = List·Mem (x .number) (map (λ (y : Stream). y .number) chosen)
 
--- That can be decided.
+-- Annex 5.6: that can be decided.
 abbrev pub served : (chosen : List Stream) (x : Stream) → Dec (Served chosen x)
 served chosen x = decMem ℕ-discrete (x .number) (map (λ (y : Stream). y .number) chosen)
 
--- A stream that is served at its next packet, another as it is.
+-- Annex 5.6: a stream that is served at its next packet, another as it is.
 abbrev pub passed : List Stream → Stream → Stream
 passed chosen x = ite (served chosen x) (next x) x
 

@@ -1,4 +1,4 @@
--- What the contracts of the crate cite. A reader has to believe Least, Periods and Superframe; Multiples is what inner functions promise one
+-- What the contracts of the crate cite. A reader has to believe Least, Periods and Superframe. Multiples is what inner functions promise one
 -- another, Decide has the deciders, and the rest is proved.
 pub mod Least
 pub mod Periods

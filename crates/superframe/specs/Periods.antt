@@ -3,7 +3,7 @@ use mathlib.Core.List.{List, List·Mem}
 use Prim.Native.Nat.{ℕ, _≤_, _∣_}
 use Rattle.superframe.specs.Least.{IsLeast}
 
--- A period is 1 to 240.
+-- Annex 9.2: a period is 1 to 240.
 abbrev pub InRange : ℕ → Type 0
 InRange p = (1 ≤ p) × (p ≤ 240)
 

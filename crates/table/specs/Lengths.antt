@@ -2,20 +2,19 @@
 use mathlib.Core.Path.{_≡_}
 use mathlib.Core.Logic.{ite}
 use mathlib.Core.List.{List, List·Mem}
-use Prim.Native.Nat.{ℕ, zero, suc, _+_, _-_, _*_, _≤_, _<_}
+use Prim.Native.Nat.{ℕ, zero, suc, _+_, _-_, _≤_, _<_}
 use native.Mathlib.Decide.{ℕ-discrete}
 use lib.ListN.{getD, length}
 use Rattle.basics.specs.Limits.{last-start, places, most-slots}
 use Rattle.rules.specs.Streams.{Stream, WellFormed}
-use Rattle.rules.specs.Demand.{packets-by, demand, DemandRule, StartRule, IsLazyStart}
-use Rattle.rules.specs.Ready.{AllWellFormed, most-in, count-by, IsBusy}
-use Rattle.table.specs.Table.{records-of, stream-of, streams-of, stream-at, value-of, IsColumn}
+use Rattle.rules.specs.Demand.{DemandRule, StartRule, IsLazyStart}
+use Rattle.rules.specs.Ready.{count-by, IsBusy}
+use Rattle.table.specs.Table.{records-of, stream-of, streams-of, stream-at, value-of}
 use Rattle.table.specs.Range.{RecordInRange, AreNear}
 use Rattle.table.specs.declared.Record.{Record}
 use Rattle.table.specs.declared.Table.{Table}
-use Rattle.table.specs.declared.lengths.Sums.{Sums}
 use Rattle.table.specs.declared.Column.{Column}
-use Rattle.table.specs.declared.Column.the-variants.{Period}
+use Rattle.table.specs.Sums.{AreNext}
 
 -- The busy length of the table, or 0 where the demand rule fails.
 pub record IsBusyLength (b : ℕ) (ss : List Stream) (r : ℕ) : Type 0 where
@@ -48,26 +47,10 @@ pub record CanFindStart (b x latest T : ℕ) (table : Table) : Type 0 where
   pub busy : IsBusy b (streams-of table) T
   pub short : T ≤ 5040
 
--- The first due time after t, of due times first, first + period and so on.
-unfoldable pub next-after : ℕ → ℕ → ℕ → ℕ
-next-after period first t = first + packets-by period first t * period
-
--- In each stream's place the first due time after t. `first` is a stream's first one.
-pub record AreNext (first : Stream → ℕ) (table : Table) (t : ℕ) (next : List ℕ) : Type 0 where
-  pub times : (k : ℕ) → k < table .count → getD next k 0 ≡ next-after (stream-at table k .period) (first (stream-at table k)) t
-  pub room : table .count ≤ length next
-
 -- A walk at length t: the next due times, and how many due times there are by t.
 pub record IsWalk (first : Stream → ℕ) (table : Table) (t : ℕ) (next : List ℕ) (sum : ℕ) : Type 0 where
   pub are-next : AreNext first table t next
   pub counted : sum ≡ count-by first (streams-of table) t
-
--- A table with its periods in range, and the column of them.
-pub record HasPeriods (table : Table) (periods : List ℕ) : Type 0 where
-  pub count : table .count ≤ places
-  pub within : table .count ≤ length (table .streams)
-  pub column : IsColumn Period table periods
-  pub range : (k : ℕ) → k < table .count → (1 ≤ stream-at table k .period) × (stream-at table k .period ≤ 240)
 
 -- What narrowing a column relies on: none of its values is below the base, or more than 60,000 above it.
 pub record CanNarrow (column : Column) (table : Table) (base : ℕ) : Type 0 where
@@ -105,19 +88,3 @@ pub record IsAdvance (periods times : List ℕ) (n t : ℕ) (later : List ℕ) (
   pub counted : r ≡ hits-before times t n
   pub few : r ≤ n
   pub size : length later ≡ length times
-
--- Annex 12.19: at length t the sums carried are the rules' own, the demand and the busy length's W(t), and in each stream's place stand the next
--- deadline and the next release, which they do not count yet. That they are few keeps them within 32 bits.
-pub record AreSums (table : Table) (t : ℕ) (dues releases : List ℕ) (sums : Sums) : Type 0 where
-  pub demand-is : sums .demand ≡ demand (streams-of table) t
-  pub most-is : sums .most ≡ most-in (streams-of table) t
-  pub next-dues : AreNext (λ s. s .deadline) table t dues
-  pub next-releases : AreNext (λ s. 1) table t releases
-  pub few : (sums .demand ≤ places * t) × (sums .most ≤ places * t)
-
--- Annex 12.19: what carrying the sums to a length t, 1 to 5,040, relies on: they are the rules' at the length before, and the streams are well formed.
-pub record CanCarry (table : Table) (periods dues releases : List ℕ) (t : ℕ) (before : Sums) : Type 0 where
-  pub has : HasPeriods table periods
-  pub formed : AllWellFormed (streams-of table)
-  pub within : (1 ≤ t) × (t ≤ 5040)
-  pub sums : AreSums table (t - 1) dues releases before

@@ -1,11 +1,13 @@
--- Tables of records in code, and what the rules see of them. A reader has to believe Table, Range and the first definitions of Changes, and for
--- Annex 12.19 and 12.20 `AreSums` in Lengths and NoDivision; the others are what inner functions promise one another, and Facts is proved.
+-- Tables of records in code, and what the rules see of them. A reader has to believe Table, Range and Changes, and for Annex 12.19 and 12.20 Sums and
+-- NoDivision. The others are what inner functions promise one another, and Facts is proved.
 pub mod Table
 pub mod Range
 pub mod Changes
+pub mod Sums
+pub mod NoDivision
+pub mod Needs
 pub mod Places
 pub mod Lengths
-pub mod NoDivision
 pub mod Ids
 pub mod RangeTests
 pub mod Start

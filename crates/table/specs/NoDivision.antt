@@ -19,7 +19,7 @@ in-loops =
     ∷ "table::start::lesser"
     ∷ []
 
--- Whether an operation on two values is neither a division nor a remainder. All of them stand here, so that a new one has to be looked at.
+-- Annex 12.20: whether an operation on two values is neither a division nor a remainder. All of them stand here, so that a new one has to be looked at.
 unfoldable pub is-plain : Op2 → Bool
 is-plain (add s) = true
 is-plain (sub s) = true
@@ -51,7 +51,7 @@ is-plain floatNe = true
 is-plain floatLt = true
 is-plain floatLe = true
 
--- Of what an assignment stores, only an operation on two values can divide.
+-- Annex 12.20: of what an assignment stores, only an operation on two values can divide.
 unfoldable pub plain-value : Rv → Bool
 unfolding is-plain
 plain-value (rvOpd o) = true
@@ -61,7 +61,7 @@ plain-value (addrOf p) = true
 plain-value (aggregate os) = true
 plain-value (repeat o n) = true
 
--- Whether a name is one of these.
+-- Annex 12.20: whether a name is one of these.
 unfoldable pub among : Name → List Name → Bool
 among n [] = false
 among n (m ∷ ms) = eqt n m || among n ms
@@ -69,7 +69,7 @@ among n (m ∷ ms) = eqt n m || among n ms
 unfoldable mutual
   unfolding plain-value among in-loops
 
-  -- No division, no remainder, and no call but of the functions above.
+  -- Annex 12.20: no division, no remainder, and no call but of the functions above.
   pub never-divides : Body → Bool
   never-divides skip = true
   never-divides (seq a b) = never-divides a && never-divides b
@@ -90,7 +90,7 @@ unfoldable mutual
 unfoldable mutual
   unfolding never-divides
 
-  -- The same of each loop in a body, whatever stands outside the loops.
+  -- Annex 12.20: the same of each loop in a body, whatever stands outside the loops.
   pub loops-never-divide : Body → Bool
   loops-never-divide skip = true
   loops-never-divide (seq a b) = loops-never-divide a && loops-never-divide b

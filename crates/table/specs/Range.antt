@@ -24,7 +24,7 @@ pub record AreNear (now : ℕ) (rs : List Record) : Type 0 where
   pub due-after : (r : Record) → List·Mem r rs → now < due-of r
   pub released : (r : Record) → List·Mem r rs → r .release ≤ now + 239
 
--- Both, of a table in code: its count is that of the records, so it is at most 64 too.
+-- Annex 3.6: both, of a table in code: its count is that of the records, so it is at most 64 too.
 pub record TableInRange (frame now : ℕ) (table : Table) : Type 0 where
   pub count : table .count ≤ places
   pub records : RecordsInRange frame (records-of table)

@@ -6,7 +6,8 @@ use lib.ListN.{getD}
 use Rattle.rules.specs.Streams.{Stream, due}
 use Rattle.rules.specs.Demand.{future, ceil}
 use Rattle.table.specs.Table.{streams-of}
-use Rattle.table.specs.Lengths.{CanFindStart, HasPeriods, IsNarrow}
+use Rattle.table.specs.Lengths.{CanFindStart, IsNarrow}
+use Rattle.table.specs.Sums.{HasPeriods}
 use Rattle.table.specs.declared.Table.{Table}
 use Rattle.table.specs.declared.Column.the-variants.{Due}
 

@@ -2,7 +2,8 @@
 ghost use mathlib.Core.Path.{_≡_};
 ghost use Prim.Native.Nat.{_≤_};
 ghost use Rattle.table.specs.Table.{records-of};
-ghost use Rattle.table.specs.Changes.{IsPlaceOf, HasRecords, CanPut, CanChange, put-by-id, without-id, sent};
+ghost use Rattle.table.specs.Changes.{put-by-id, without-id, sent};
+ghost use Rattle.table.specs.Needs.{IsPlaceOf, HasRecords, CanPut, CanChange};
 ghost use Rattle.table.specs.Places.{IsPlaceBefore, CanOpen, opened, CanClose, closed};
 use super::Record;
 use super::Table;

@@ -1,7 +1,8 @@
 // Columns of a table: the periods, deadlines, due times or releases of its streams.
 ghost use mathlib.Core.Path.{_≡_};
 ghost use Prim.Native.Nat.{_≤_};
-ghost use Rattle.table.specs.Table.{CanRead, IsColumn, stream-of, value-of};
+ghost use Rattle.table.specs.Table.{IsColumn, stream-of, value-of};
+ghost use Rattle.table.specs.Needs.{CanRead};
 use super::Column;
 use super::Record;
 use super::Table;

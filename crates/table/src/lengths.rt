@@ -3,7 +3,8 @@
 ghost use mathlib.Core.Path.{_≡_};
 ghost use Prim.Native.Nat.{_≤_};
 ghost use Rattle.table.specs.Table.{streams-of};
-ghost use Rattle.table.specs.Lengths.{CanNarrow, IsNarrow, CanAdvance, IsAdvance, CanCarry, AreSums, CanTestDemand, IsBusyLength, hits, after-hit};
+ghost use Rattle.table.specs.Lengths.{CanNarrow, IsNarrow, CanAdvance, IsAdvance, CanTestDemand, IsBusyLength, hits, after-hit};
+ghost use Rattle.table.specs.Sums.{CanCarry, AreSums};
 use super::Column;
 use super::Table;
 use super::columns::column_in_range;

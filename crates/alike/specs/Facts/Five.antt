@@ -10,6 +10,7 @@ use Rattle.basics.specs.Facts.Refusals.{answer-first, answer-later, answer-zero
 use Rattle.planner.specs.Content.{Content, content}
 use Rattle.planner.specs.Sound.{Sound}
 use Rattle.planner.specs.Decide.{decide-sound}
+use Rattle.planner.specs.Open.{Setting, open-refusals, IsOpened}
 use Rattle.planner.specs.AddRemove.{Offer, unsound, not-held, IsChange, IsAdd, IsRemove}
 use Rattle.planner.specs.Round.{short-buffer, late-start, IsRound}
 use Rattle.planner.specs.Facts.Calls.{refused-change, change-keeps-sound, refused-round, round-keeps-sound, held-is-sound}
@@ -85,3 +86,10 @@ unfolding NoneIs
 round-five {p} {before} is =
     let (one, other) = five-iff p (short-buffer (content p) before ∷ late-start p ∷ []) (λ e. omega (arith, e), (λ e. omega (arith, e), tt)) in
     (λ five. one (sym (is .answer) ∙ five), λ bad. is .answer ∙ other bad)
+
+-- and open never answers 5
+pub open-never-five : {s : Setting} {r : Changed} → IsOpened s r → r .answer ≡ 5 → ⊥
+unfolding NoneIs
+open-never-five {s} is five =
+    let none-is = (λ e. omega (arith, e), (λ e. omega (arith, e), (λ e. omega (arith, e), (λ e. omega (arith, e), tt)))) in
+    not-the-answer 5 (λ e. omega (arith, e)) (open-refusals s) none-is (sym (is .answer) ∙ five)

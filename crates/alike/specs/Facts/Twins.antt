@@ -21,7 +21,8 @@ use Rattle.planner.specs.Facts.Calls.{refused-change, success-change, refused-r
 use Rattle.planner.specs.declared.Planner.{Planner}
 use Rattle.planner.specs.declared.Changed.{Changed}
 use Rattle.planner.specs.declared.Rounded.{Rounded}
-use Rattle.alike.specs.Twins.{AreTwins, both-sound, neither-sound, Call, Outcome, change, round, Gives, opens, adds, removes, rounds, Makes, none, then, SameOutcomes}
+use Rattle.alike.specs.Twins.{AreTwins, both-sound, neither-sound, SameOutcomes}
+use Rattle.alike.specs.Twins.{Call, Outcome, change, round, Gives, opens, adds, removes, rounds, Makes, none, then}
 use Rattle.alike.specs.Facts.Refusals.{AreAlike, same-answers}
 
 -- Annex 12.23: equal planners are twins

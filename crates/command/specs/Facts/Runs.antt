@@ -12,7 +12,15 @@ use Rattle.command.specs.Step.{IsStep}
 use Rattle.command.specs.Facts.Puts.{put-length}
 use Rattle.command.specs.declared.lines.Reached.{Reached}
 use Rattle.command.specs.declared.step.Step.{Step}
-use Rattle.command.specs.Runs.{part-of, none, one-more, CanRun, HasRun, HasRunLast, Running}
+use Rattle.command.specs.Runs.{part-of, none, one-more, Reaches, CanRun, HasRun, HasRunLast}
+
+-- what holds at the head of a turn
+pub record Running (s : Reached) (bytes before after : List ℕ) (t : Reached) : Type 0 where
+  pub reaches : Reaches bytes s before t after
+  pub in-input : t .from ≤ length bytes
+  pub in-buffer : t .end ≤ length before
+  pub counts : t .number + s .from ≤ s .number + t .from
+  pub long : length after ≡ length before
 
 module _ {s : Reached} {bytes before : List ℕ} (can : CanRun s bytes before) where
   -- before the first line the run stands where it began, and nothing is written

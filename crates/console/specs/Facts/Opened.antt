@@ -11,7 +11,7 @@ use Rattle.planner.specs.Sound.{Sound}
 use Rattle.planner.specs.Open.{zeros, setting, IsFresh}
 use Rattle.planner.specs.Facts.Open.{closed-is-not-sound, open-success-is-sound}
 use Rattle.planner.specs.declared.Planner.{Planner}
-use Rattle.alike.specs.Facts.Five.{change-leaves-sound, round-leaves-sound, add-five, remove-five, round-five}
+use Rattle.alike.specs.Facts.Five.{change-leaves-sound, round-leaves-sound, add-five, remove-five, round-five, open-never-five}
 use Rattle.command.specs.Commands.{Says}
 use Rattle.command.specs.Answers.{Gives, IsAnswered}
 use Rattle.command.specs.Puts.{IsLine}
@@ -132,3 +132,16 @@ five-exactly {q = q} {line = line} {answer = answer} {n = n} closed t c says ask
     let (on, back) = five-if-unsound q (n + 1) line answer (is .answered) (is .written) c asks to-c in
     let (sound, open-now) = open-is-sound closed t in
     (λ five is-open. on five (sound is-open), λ not-open. back (λ is-sound. not-open (open-now is-sound)))
+
+-- Annex 11.10: so between an O that succeeds and the next O, which may itself be refused, no line is answered 5
+pub no-five-while-open : {p q after : Planner} {lines answers line answer : List ℕ} {n : ℕ} → IsFresh zeros p → (t : Transcript p lines answers q n)
+    → IsOpen t → (c : Command) → Says line c → IsAnswer q (n + 1) line answer after → IsFive c answer → ⊥
+no-five-while-open {q = q} {line = line} {answer = answer} {n = n} closed t is-open (Open b f g last) says is five =
+    let same = says-one line (is .command) (Open b f g last) (is .says) says in
+    let to-open = subst (λ (d : Command). IsAnswered q (n + 1) d (is .answered)) same (is .by-contract) in
+    let text = given-text q (n + 1) line answer (is .answered) (is .written) (to-open .given) in
+    open-never-five (to-open .by-contract) (ap (λ (l : List ℕ). getD l 0 0) (line-numbers text five .1))
+no-five-while-open closed t is-open (Add id s p d) says is five = five-exactly closed t (Add id s p d) says tt is .0 five is-open
+no-five-while-open closed t is-open (Remove id) says is five = five-exactly closed t (Remove id) says tt is .0 five is-open
+no-five-while-open closed t is-open Round says is five = five-exactly closed t Round says tt is .0 five is-open
+no-five-while-open closed t is-open Malformed says is five = five

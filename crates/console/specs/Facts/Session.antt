@@ -17,8 +17,10 @@ use Rattle.console.specs.Transcript.{HasNoEnd, Told, ToldAll}
 use Rattle.console.specs.Facts.LineEnds.{no-end-first, rest-no-end}
 use Rattle.console.specs.Facts.Moves.{first-64}
 use Rattle.console.specs.Facts.Transcript.{read-told, cut-told, step-answer, run-told, none-left, last-told}
-use Rattle.console.specs.Session.{at-hand, HasTold, InBounds, CanAnswer, HasAnswered, HasAnsweredLast}
-use Rattle.console.specs.Session.{handed-over, IsMoved, CanKeep, IsKept, CanRefill, delivered, IsRefilled, IsTurned}
+use Rattle.console.specs.Session.{at-hand, HasTold, InBounds}
+use Rattle.console.specs.Needs.{CanAnswer, HasAnswered, HasAnsweredLast}
+use Rattle.console.specs.Session.{CanKeep, CanRefill, delivered, IsTurned}
+use Rattle.console.specs.Needs.{handed-over, IsMoved, IsKept, IsRefilled}
 use Rattle.console.specs.declared.Session.{Session}
 use Rattle.console.specs.declared.Turn.{Turn}
 

@@ -8,7 +8,8 @@ use native.Mathlib.Omega.{arith}
 use lib.ListN.{length, take, length-take, drop-of-length-le}
 use Rattle.console.specs.Transcript.{HasNoEnd, Told}
 use Rattle.console.specs.Transcript.Transcript.{none}
-use Rattle.console.specs.Session.{at-hand, HasTold, IsBegun, InBounds, CanAnswer, CanAnswerLast, delivered, IsTurned}
+use Rattle.console.specs.Session.{at-hand, HasTold, InBounds, delivered, IsTurned}
+use Rattle.console.specs.Needs.{IsBegun, CanAnswer, CanAnswerLast}
 use Rattle.console.specs.declared.Session.{Session}
 use Rattle.console.specs.declared.Turn.{Turn}
 

@@ -46,7 +46,8 @@ find-meets {q} (yes sound) (e ∷ es) r is =
     })
 
 -- superframe, however it was decided whether all periods are in range ..
-frame-meets : (periods : List ℕ) (d : Dec (AllInRange periods)) → Meets (superframe-refusals periods) (by-range periods d .answer) (by-range periods d .value ≡ 0)
+frame-meets : (periods : List ℕ) (d : Dec (AllInRange periods))
+    → Meets (superframe-refusals periods) (by-range periods d .answer) (by-range periods d .value ≡ 0)
 unfolding by-range within-limit
 frame-meets periods (no bad) = record { first = here bad; refused = λ _. refl }
 frame-meets periods (yes good) = go (decLe m 5040)

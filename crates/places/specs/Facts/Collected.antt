@@ -10,7 +10,8 @@ use native.Mathlib.Omega.{arith}
 use lib.ListN.{length}
 use Rattle.places.specs.Order.{Entry}
 use Rattle.places.specs.Entries.{put, without}
-use Rattle.places.specs.Collected.{collected, Once, IsSet}
+use Rattle.places.specs.Collected.{collected, Once}
+use Rattle.places.specs.Changes.{IsSet}
 use Rattle.places.specs.Facts.Entries.{InOrder, in-put, put-new, put-old, put-length, put-in-order, in-order-unique}
 
 module _ (at : ℕ → Entry) where

@@ -16,7 +16,7 @@ use Rattle.basics.specs.Places.{IsPlaceAmong}
 use Rattle.basics.specs.Facts.Places.{place-found}
 use Rattle.places.specs.Facts.Marks.{marked, marked-none, marked-few, all-marked, marked-all, marked-more}
 use Rattle.places.specs.Filing.{CanFile, IsRow, PlacesFile}
-use Rattle.places.specs.Collected.{IsSet}
+use Rattle.places.specs.Changes.{IsSet}
 use Rattle.places.specs.Order.{Entry}
 use Rattle.places.specs.Entries.{row-of}
 

@@ -14,7 +14,7 @@ use Rattle.rules.specs.Decide.{decide-demand-rule, decide-start-rule}
 use Rattle.table.specs.Table.{as-streams, streams-of}
 use Rattle.table.specs.Facts.Changes.{records-count}
 use Rattle.table.specs.declared.Record.{Record}
-use Rattle.table.specs.Changes.{HasRecords, CanPut}
+use Rattle.table.specs.Needs.{HasRecords, CanPut}
 use Rattle.table.specs.Range.{RecordsInRange, AreNear, TableInRange}
 use Rattle.table.specs.Lengths.{IsBusyLength, IsNextStart, CanTestDemand, CanFindStart}
 use Rattle.table.specs.declared.Table.{Table}

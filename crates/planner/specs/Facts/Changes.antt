@@ -9,7 +9,8 @@ use Rattle.basics.specs.Refusals.{Refusal, answer-of}
 use Rattle.basics.specs.Facts.Refusals.{answer-zero}
 use Rattle.table.specs.Table.{records-of}
 use Rattle.table.specs.declared.Record.{Record}
-use Rattle.table.specs.Changes.{HasId, decide-id, without-id, HasRecords, CanChange}
+use Rattle.table.specs.Changes.{HasId, decide-id, without-id}
+use Rattle.table.specs.Needs.{HasRecords, CanChange}
 use Rattle.table.specs.declared.Table.{Table}
 use Rattle.queue.specs.Interface.{Entry, without, entries, HasEntries}
 use Rattle.queue.specs.declared.Queue.{Queue}

@@ -2,7 +2,7 @@
 use mathlib.Core.Path.{_≡_, refl, sym, ap, subst, subst⁻¹, _∙_}
 use mathlib.Core.Logic.{_↔_, _∨₁_, Or·inl, Or·inr, Or·elim, ite, ∥∥₁-elim, ∥∥₁-map, ∥∥₁-prop}
 use mathlib.Core.HLevel.{×-prop, ¬-prop}
-use mathlib.Core.List.{List, List·Mem, List·Mem-prop, List·Nodup, Pairwise, Pairwise·imp, Pairwise·map, map, mem-map, mem-map-of-mem}
+use mathlib.Core.List.{List, List·Mem, List·Mem-prop, List·Nodup, Pairwise·imp, Pairwise·map, map, mem-map, mem-map-of-mem}
 use Prim.Native.Nat.{ℕ, _+_, _≤_, _<_}
 use native.Mathlib.Bridge.{le-prop}
 use native.Mathlib.Nat.{le-antisymm, lt-irrefl}
@@ -11,7 +11,8 @@ use native.Mathlib.Omega.{arith}
 use lib.ListN.{length, length-map}
 use Rattle.rules.specs.Facts.Lists.{no-longer}
 use Rattle.table.specs.Table.{due-of}
-use Rattle.table.specs.Changes.{HasId, Ascending, put-by-id, without-id, sent, stepped}
+use Rattle.table.specs.Changes.{HasId, Ascending, put-by-id, without-id, sent}
+use Rattle.table.specs.Needs.{stepped}
 use Rattle.table.specs.Facts.Records.{one-record}
 use Rattle.table.specs.declared.Record.{Record}
 use Rattle.queue.specs.Interface.{Entry, Before, put, without, moved-on, moved, Filed, InBounds, entries, CanInsert, CanDelete}

@@ -2,7 +2,7 @@
 use mathlib.Core.Path.{_≡_, refl, sym, subst, subst⁻¹, _∙_}
 use mathlib.Core.Logic.{ite}
 use mathlib.Core.HLevel.{×-prop}
-use mathlib.Core.List.{List, List·Mem, Pairwise·map, decMem, map, map-map, map-congr-left, mem-map-of-mem}
+use mathlib.Core.List.{List, List·Mem, Pairwise·map, decMem, map-map, map-congr-left, mem-map-of-mem}
 use Prim.Native.Nat.{ℕ, _+_, _≤_, _<_}
 use native.Mathlib.Bridge.{le-prop}
 use native.Mathlib.Nat.{le-trans}

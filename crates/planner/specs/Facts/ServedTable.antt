@@ -21,7 +21,8 @@ use Rattle.rules.specs.Facts.LazyStart.{lazy-fits}
 use Rattle.rules.specs.Facts.Slots.{IsChoice, in-order-perm}
 use Rattle.rules.specs.Facts.RoundKept.{served-iff, round-choice}
 use Rattle.table.specs.Table.{stream-of, due-of}
-use Rattle.table.specs.Changes.{HasId, Ascending, sent, stepped, serve}
+use Rattle.table.specs.Changes.{HasId, Ascending, sent}
+use Rattle.table.specs.Needs.{stepped, serve}
 use Rattle.table.specs.Facts.Records.{numbers}
 use Rattle.table.specs.declared.Record.{Record}
 use Rattle.queue.specs.Interface.{Entry, moved, InBounds}

@@ -11,7 +11,8 @@ use lib.ListN.{length, take, getD, set, length-set}
 use lib.Seq.{take-all, getD-take, getD-set-same, getD-set-other}
 use Rattle.table.specs.Table.{records-of, record-at, no-record}
 use Rattle.table.specs.Facts.Table.{record-at-mem}
-use Rattle.table.specs.Changes.{HasId, Ascending, serve, sent, IsPlaceOf, HasRecords, CanChange}
+use Rattle.table.specs.Changes.{HasId, Ascending, sent}
+use Rattle.table.specs.Needs.{serve, IsPlaceOf, HasRecords, CanChange}
 use Rattle.table.specs.Facts.Changes.{serve-at-place}
 use Rattle.table.specs.declared.Record.{Record}
 use Rattle.table.specs.declared.Table.{Table}

@@ -6,11 +6,12 @@ use mathlib.Core.List.{List, List·Mem}
 use Prim.Native.Nat.{ℕ, _+_, _≤_, _<_}
 use native.Mathlib.Nat.{lt-irrefl}
 use native.Mathlib.Omega.{arith}
-use lib.ListN.{length, take, length-map, length-take}
+use lib.ListN.{length, length-take}
 use Rattle.basics.specs.Decides.{Decides}
 use Rattle.basics.specs.Facts.Decides.{same-as}
 use Rattle.rules.specs.Demand.{IsLazyStart}
-use Rattle.table.specs.Table.{records-of, streams-of, record-at, stream-at, due-of, IsColumn, CanRead}
+use Rattle.table.specs.Table.{records-of, streams-of, record-at, due-of, IsColumn}
+use Rattle.table.specs.Needs.{CanRead}
 use Rattle.table.specs.declared.Record.{Record}
 use Rattle.table.specs.Facts.Table.{record-at-mem, all-records}
 use Rattle.table.specs.Ids.{IsIds}

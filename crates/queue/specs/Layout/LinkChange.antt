@@ -5,7 +5,7 @@ use Prim.Native.Nat.{ℕ, _-_, _≤_, _<_}
 use native.Mathlib.Nat.{lt-irrefl}
 use native.Mathlib.Decide.{decLt, ℕ-discrete}
 use native.Mathlib.Omega.{arith}
-use Rattle.places.specs.Collected.{IsSet}
+use Rattle.places.specs.Changes.{IsSet}
 use Rattle.queue.specs.Layout.{IsNode, bucket-of-key, bucket-of}
 use Rattle.queue.specs.Layout.Ranks.{low, high, RankLinked, AllRankLinked, low-place, high-place, bucket-place}
 

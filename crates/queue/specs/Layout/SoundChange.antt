@@ -10,7 +10,7 @@ use lib.ListN.{length, getD, set, length-set}
 use lib.Seq.{getD-set-same, getD-set-other}
 use Rattle.places.specs.Order.{Entry, triple}
 use Rattle.places.specs.Entries.{put, without, InBounds}
-use Rattle.places.specs.Collected.{IsSet}
+use Rattle.places.specs.Changes.{IsSet}
 use Rattle.places.specs.Facts.Collected.{put-once, put-collected, taken-once, taken-collected}
 use Rattle.places.specs.Facts.Entries.{entry-path}
 use Rattle.queue.specs.Layout.{id-at, key-at, release-at, entry-at, next-at, prev-at, Holds, entries, IsNode, bucket-of, Sound}

@@ -15,7 +15,8 @@ use Rattle.rules.specs.Ready.{AllWellFormed, IsBusy}
 use Rattle.rules.specs.Facts.Busy.{busy-settles-demand, frame-busy}
 use Rattle.table.specs.Table.{records-of, streams-of, record-at}
 use Rattle.table.specs.Range.{RecordInRange}
-use Rattle.table.specs.Lengths.{HasPeriods, CanNarrow, IsNarrow, AreSums, CanCarry, CanTestDemand, IsBusyLength}
+use Rattle.table.specs.Lengths.{CanNarrow, IsNarrow, CanTestDemand, IsBusyLength}
+use Rattle.table.specs.Sums.{HasPeriods, AreSums, CanCarry}
 use Rattle.table.specs.Facts.Table.{record-at-mem, all-streams}
 use Rattle.table.specs.Facts.Lengths.{sums-begin}
 use Rattle.table.specs.declared.Table.{Table}

@@ -12,7 +12,8 @@ use lib.Seq.{getD-take, take-set-lt, length-take-le}
 use Rattle.basics.specs.Facts.Members.{getD-mem}
 use Rattle.table.specs.Table.{records-of, record-at, no-record}
 use Rattle.table.specs.Facts.Table.{row-at, all-records}
-use Rattle.table.specs.Changes.{HasId, HasRecords, IsPlaceOf, CanChange, put-by-id, without-id, serve, sent, Ascending}
+use Rattle.table.specs.Changes.{HasId, put-by-id, without-id, sent, Ascending}
+use Rattle.table.specs.Needs.{HasRecords, IsPlaceOf, CanChange, serve}
 use Rattle.table.specs.Places.{opened, closed, IsPlaceBefore}
 use Rattle.table.specs.declared.Record.{Record}
 use Rattle.table.specs.declared.Table.{Table}

@@ -18,7 +18,8 @@ use Rattle.rules.specs.Facts.Division.{packets-none, packets-mono, window, ceil
 use Rattle.rules.specs.Ready.{AllWellFormed, count-by}
 use Rattle.rules.specs.Facts.CountBy.{count-by-one-more, count-by-none, count-by-demand, count-by-most-in}
 use Rattle.table.specs.Table.{stream-of, as-streams, records-of, streams-of, stream-at}
-use Rattle.table.specs.Lengths.{next-after, hits, after-hit, hits-before, HasPeriods, AreNext, IsWalk, CanAdvance, IsAdvance, AreSums}
+use Rattle.table.specs.Lengths.{hits, after-hit, hits-before, IsWalk, CanAdvance, IsAdvance}
+use Rattle.table.specs.Sums.{next-after, HasPeriods, AreNext, AreSums}
 use Rattle.table.specs.Facts.Table.{row-at, one-row-more, all-records, all-streams, one-place-more}
 use Rattle.table.specs.declared.Record.{Record}
 use Rattle.table.specs.declared.Table.{Table}

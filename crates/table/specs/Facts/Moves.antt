@@ -12,7 +12,7 @@ use lib.ListN.{take, set, length, length-set}
 use lib.Seq.{getD-set-same, getD-set-other}
 use Rattle.table.specs.Table.{records-of, no-record}
 use Rattle.table.specs.Facts.Table.{row-at}
-use Rattle.table.specs.Changes.{HasRecords}
+use Rattle.table.specs.Needs.{HasRecords}
 use Rattle.table.specs.Places.{opened, closed, CanOpen, CanClose}
 use Rattle.table.specs.declared.Record.{Record}
 use Rattle.table.specs.declared.Table.{Table}

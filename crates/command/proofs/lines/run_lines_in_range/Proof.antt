@@ -2,8 +2,7 @@
 use Prim.Native.Nat.{_-_}
 use native.Mathlib.Omega.{arith}
 use borrow.Author.Needs.{needs}
-use Rattle.command.specs.Runs.{Running}
-use Rattle.command.specs.Facts.Runs.{none-run, number-fits, input-done, no-line-left, buffer-full, one-more-run}
+use Rattle.command.specs.Facts.Runs.{Running, none-run, number-fits, input-done, no-line-left, buffer-full, one-more-run}
 use Rattle.command.specs.declared.lines.Reached.{Reached}
 use Rattle.command.proofs.lines.run_lines_in_range.Statement.{statement}
 use Rattle.command.proofs.lines.run_lines_in_range.Tie as tie

@@ -15,7 +15,7 @@ returns-2 c = sym (hits-no _ _ (c .if1 .left))
 pub hit-spec : {M : Type 1} → statement M
 hit-spec = tie.close (tie.spec returns returns-2)
 
--- no division, no remainder, and no call but of functions of which the same is proved
+-- Annex 12.20: no division, no remainder, and no call but of functions of which the same is proved
 pub no-division : NeverDivides code.function
 unfolding never-divides
 no-division = refl

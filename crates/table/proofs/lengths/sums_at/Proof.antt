@@ -37,7 +37,7 @@ returns c =
 pub sums-at-spec : {M : Type 1} → statement M
 sums-at-spec = tie.close (tie.spec advance-requires cast-t9 add-t10 advance-requires-2 cast-t13 add-t14 returns)
 
--- no division, no remainder, and no call but of functions of which the same is proved
+-- Annex 12.20: no division, no remainder, and no call but of functions of which the same is proved
 pub no-division : NeverDivides code.function
 unfolding never-divides
 no-division = refl

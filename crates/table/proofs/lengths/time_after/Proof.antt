@@ -19,7 +19,7 @@ returns-2 c = sym (after-yes _ _ _ (c .if1 .left))
 pub time-after-spec : {M : Type 1} → statement M
 time-after-spec = tie.close (tie.spec returns add-result returns-2)
 
--- no division, no remainder, and no call but of functions of which the same is proved
+-- Annex 12.20: no division, no remainder, and no call but of functions of which the same is proved
 pub no-division : NeverDivides code.function
 unfolding never-divides
 no-division = refl

@@ -15,7 +15,7 @@ returns-2 c = search needs
 pub lesser-spec : {M : Type 1} → statement M
 lesser-spec = tie.close (tie.spec returns returns-2)
 
--- no division, no remainder, and no call but of functions of which the same is proved
+-- Annex 12.20: no division, no remainder, and no call but of functions of which the same is proved
 pub no-division : NeverDivides code.function
 unfolding never-divides
 no-division = refl

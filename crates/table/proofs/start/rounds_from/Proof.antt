@@ -46,7 +46,7 @@ pub rounds-from-spec : {M : Type 1} → statement M
 rounds-from-spec =
     tie.close (tie.spec Inv-loop μ-loop loop-holds mul-loop add-n loop-less loop-again returns)
 
--- no division, no remainder, and no call but of functions of which the same is proved
+-- Annex 12.20: no division, no remainder, and no call but of functions of which the same is proved
 pub no-division : NeverDivides code.function
 unfolding never-divides
 no-division = refl

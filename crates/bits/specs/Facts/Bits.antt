@@ -31,7 +31,7 @@ digit-power zero = refl
 digit-power (suc n) = digit-suc (2 ^ suc n) n ∙ ap (λ (x : ℕ). digit x n) (half-power n) ∙ digit-power n
 
 -- the empty set
-pub digit-zero : (n : ℕ) → digit 0 n ≡ 0
+digit-zero : (n : ℕ) → digit 0 n ≡ 0
 digit-zero zero = refl
 digit-zero (suc n) = digit-suc 0 n ∙ digit-zero n
 

@@ -91,5 +91,5 @@ round-five {p} {before} is =
 pub open-never-five : {s : Setting} {r : Changed} → IsOpened s r → r .answer ≡ 5 → ⊥
 unfolding NoneIs
 open-never-five {s} is five =
-    let none-is = (λ e. omega (arith, e), (λ e. omega (arith, e), (λ e. omega (arith, e), (λ e. omega (arith, e), tt)))) in
-    not-the-answer 5 (λ e. omega (arith, e)) (open-refusals s) none-is (sym (is .answer) ∙ five)
+    not-the-answer 5 (λ e. omega (arith, e)) (open-refusals s)
+    (λ e. omega (arith, e), (λ e. omega (arith, e), (λ e. omega (arith, e), (λ e. omega (arith, e), tt)))) (sym (is .answer) ∙ five)

@@ -6,10 +6,10 @@
 // All must answer alike, and `limit` must leave the very bytes that the proved call leaves, before anything is timed.
 // Short batches of each are taken in turn, in one process; a time is per call, the lower quartile of its batches.
 //   TABLE            that table alone
-//   growth           rounds where one of streams, slots, busy length and superframe is varied
+//   growth           rounds where one of streams, slots, busy length and superframe is varied, streams at two loads
 //   tables           the tables' periods
 //   check            random calls and damaged planners, the proved calls beside `limit`
-//   TABLE count TURNS   runs each call alone, for counting instructions
+//   TABLE count TURNS   runs each call alone, for counting instructions; with growth for TABLE its rounds
 use std::hint::black_box;
 use std::time::{Duration, Instant};
 
@@ -192,9 +192,9 @@ fn measure(table: &str, busy: u32, case: &Case) {
 fn growth() {
     println!("{:<8} {:>7} {:>5} {:>5} {:>5} {:>8} {:>8} {:>8} {:>8}", "varied", "streams", "slots", "busy", "frame", "proved", "limit", "fast", "plain");
     for p in growth::points() {
-        compare(&p.hosts, Call::Round, p.varied);
+        compare(&p.hosts, Call::Round, &p.said());
         let [proved, limit, fast, plain, _] = times(&p.hosts, Call::Round);
-        println!("{:<8} {:>7} {:>5} {:>5} {:>5} {proved:>8.0} {limit:>8.0} {fast:>8.0} {plain:>8.0}", p.varied, p.streams, p.slots, p.busy, p.frame);
+        println!("{} {proved:>8.0} {limit:>8.0} {fast:>8.0} {plain:>8.0}", p.said());
     }
 }
 
@@ -210,29 +210,39 @@ extern "C" fn run_ended() {
     black_box(());
 }
 
-fn count<H: Host>(host: &H, name: &str, case: &Case, turns: u32) {
+fn count<H: Host>(host: &H, name: &str, case: &str, call: Call, turns: u32) {
     let mut going = host.clone();
     let mut sum = 0u32;
     for _ in 0..turns {
-        if !matches!(case.call, Call::Round) {
+        if !matches!(call, Call::Round) {
             going = black_box(host.clone());
         }
-        sum = sum.wrapping_add(counted(&mut going, case.call));
+        sum = sum.wrapping_add(counted(&mut going, call));
     }
     black_box(sum);
-    println!("{name} {}", case.name);
+    println!("{name} {case}");
     run_ended();
+}
+
+fn count_all(hosts: &Hosts, case: &str, call: Call, turns: u32) {
+    count(&hosts.proved, "proved", case, call, turns);
+    count(&hosts.limit, "limit", case, call, turns);
+    count(&hosts.fast, "fast", case, call, turns);
+    count(&hosts.plain, "plain", case, call, turns);
 }
 
 fn main() {
     let words: Vec<String> = std::env::args().skip(1).collect();
     if let [table, _, turns] = &words[..] {
         let turns = turns.parse().expect("turns");
+        if table == "growth" {
+            for p in &growth::points() {
+                count_all(&p.hosts, &p.said(), Call::Round, turns);
+            }
+            return;
+        }
         for case in &tables::all(Some(table)).first().expect("a table").cases() {
-            count(&case.hosts.proved, "proved", case, turns);
-            count(&case.hosts.limit, "limit", case, turns);
-            count(&case.hosts.fast, "fast", case, turns);
-            count(&case.hosts.plain, "plain", case, turns);
+            count_all(&case.hosts, case.name, case.call, turns);
         }
         return;
     }

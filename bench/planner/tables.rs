@@ -1,6 +1,6 @@
 // The tables that are measured, made with fixed seeds, after a long run of rounds: 8 and 64 streams at three loads, some of which need
 // periods of 1; at light and medium load with no period below 8, so that a lazy round waits; and with long periods alone. Each with a gap
-// limit of 200 and, under a name that ends in -g20, of 20.
+// limit of 200 and, under a name that ends in -g20, of 20. Two more, of 63 streams, have the dearest calls found.
 use super::analytic::Analytic;
 use super::fast::Fast;
 use super::limit::Limit;
@@ -116,6 +116,24 @@ fn long(random: &mut Random, n: usize) -> Table {
     Table { name: format!("{n}-long"), slots, gap: GAP, busy, periods }
 }
 
+// How many streams there are of each period. They fill one slot, and the busy length is 5,040; without the last stream
+// it is 5,014, so that an add of that one tests both rules twice over nearly a superframe. Found by a search.
+const FULL_TWICE: [(usize, u32); 19] = [
+    (1, 7), (2, 20), (5, 35), (2, 36), (1, 45), (2, 56), (2, 60), (6, 63), (2, 70), (7, 80), (2, 84), (2, 90), (5, 105),
+    (4, 112), (2, 126), (11, 144), (2, 168), (3, 210), (2, 240),
+];
+
+// The last seven fill one slot, and the busy length is 5,040; each of the others fills a slot of its own, and they are
+// all due together.
+const FULL_SLOTS: [(usize, u32); 8] = [(56, 1), (1, 2), (1, 3), (1, 7), (1, 126), (1, 144), (1, 210), (1, 240)];
+
+// The sums take longest for 63 streams: three steps of 16, three of 4 and three of one, where 64 are four steps of 16.
+fn of_63(load: &str, slots: u32, streams: &[(usize, u32)]) -> Table {
+    let periods: Vec<u32> = streams.iter().flat_map(|(n, period)| vec![*period; *n]).collect();
+    let busy = busy_length(slots, &periods).expect("a busy length");
+    Table { name: format!("63-{load}"), slots, gap: GAP, busy, periods }
+}
+
 // Slots and periods of n streams with a busy length in that range.
 pub fn of_busy_length(n: usize, low: u32, high: u32) -> (u32, Vec<u32>) {
     let t = table(&mut Random(n as u64), n, "", 1, low, high);
@@ -138,6 +156,8 @@ pub fn all(only: Option<&str>) -> Vec<Table> {
             tables.push(long(&mut Random(n as u64), n));
         }
     }
+    tables.push(of_63("full", 1, &FULL_TWICE));
+    tables.push(of_63("slots", 57, &FULL_SLOTS));
     let short: Vec<Table> = tables.iter().map(|t| Table { name: format!("{}-g20", t.name), gap: SHORT_GAP, ..t.clone() }).collect();
     tables.extend(short);
     tables.retain(|t| only.is_none_or(|name| name == t.name));
@@ -211,6 +231,9 @@ impl Table {
         let fewer = self.periods.len() - 1;
         let ones = self.periods[..fewer].iter().filter(|period| **period == 1).count();
         let (short, late) = if crowd == Crowd::Demand { (b.checked_sub(ones)?, 0) } else { (0, 2 * b) };
+        if late > fewer {
+            return None;
+        }
         for i in late..fewer {
             self.add(&mut p, &mut random, i, (i < short).then_some(1));
         }

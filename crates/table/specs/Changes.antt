@@ -3,6 +3,7 @@ use mathlib.Core.Logic.{ite, Dec·not}
 use mathlib.Core.List.{List, [], _∷_, List·Mem, Pairwise, map, filter, decMem}
 use Prim.Native.Nat.{ℕ, _+_, _<_}
 use native.Mathlib.Decide.{decLt, ℕ-discrete}
+use Rattle.table.specs.Table.{with-release}
 use Rattle.table.specs.declared.Record.{Record}
 
 -- Annex 7.13: a record of the table has the id.
@@ -24,7 +25,7 @@ without-id id rs = filter (λ (r : Record). Dec·not (ℕ-discrete (r .id) id)) 
 
 -- Annex 5.6: a record at its stream's next packet: the release is larger by P, and nothing else changes.
 abbrev pub sent : Record → Record
-sent r = record { id = r .id; period = r .period; deadline = r .deadline; release = r .release + r .period }
+sent r = with-release r (r .release + r .period)
 
 -- Annex 3.3: ids rise along the table, so that no two are equal.
 abbrev pub Ascending : List Record → Type 0

@@ -29,6 +29,10 @@ streams-of t = as-streams (records-of t)
 abbrev pub due-of : Record → ℕ
 due-of r = r .release + r .deadline
 
+-- Annex 5.6: the same record with another release.
+abbrev pub with-release : Record → ℕ → Record
+with-release r release = record { id = r .id; period = r .period; deadline = r .deadline; release = release }
+
 -- Annex 3.12, 7.7: what an unused place is filled with: zeros.
 abbrev pub no-record : Record
 no-record = record { id = 0; period = 0; deadline = 0; release = 0 }

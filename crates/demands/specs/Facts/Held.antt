@@ -15,13 +15,13 @@ use Rattle.rules.specs.Runs.{Held, none, then, round-at, after}
 use Rattle.rules.specs.Facts.Slots.{IsChoice, choice-differ}
 use Rattle.rules.specs.Facts.RoundKept.{round-choice, served-iff}
 use Rattle.rules.specs.Facts.Packets.{advanced, advanced-none, packet-advanced}
-use Rattle.table.specs.Table.{stream-of}
+use Rattle.table.specs.Table.{stream-of, with-release}
 use Rattle.table.specs.Changes.{HasId}
 use Rattle.table.specs.declared.Record.{Record}
 use Rattle.planner.specs.Content.{Content, content, slots-of, streams-in, now-of, cap-of, start-gap-of, with-table, with-last}
 use Rattle.planner.specs.Sound.{ContentSound, Sound}
 use Rattle.planner.specs.Facts.Sound.{content-ready}
-use Rattle.planner.specs.Facts.Kept.{sent-at, seen-sent-at, rounded-streams}
+use Rattle.planner.specs.Facts.Kept.{sent-at, seen-sent-at, rounded-streams, sent-at-release}
 use Rattle.planner.specs.Round.{ids-at, rounded, IsHeldRound}
 use Rattle.planner.specs.Start.{IsStart, StartsLate}
 use Rattle.planner.specs.Facts.Calls.{refused-change, refused-round, success-round, held-is-not-late, seventeen-is-late}
@@ -38,8 +38,7 @@ sent-in rounds s = advanced (times-sent (s .number) rounds) s
 
 -- the same of a record
 abbrev pub record-sent : List HeldRound → Record → Record
-record-sent rounds r =
-    record { id = r .id; period = r .period; deadline = r .deadline; release = r .release + times-sent (r .id) rounds * r .period }
+record-sent rounds r = with-release r (r .release + times-sent (r .id) rounds * r .period)
 
 -- what a planner that held h holds after these rounds
 abbrev pub after-rounds : Content → List HeldRound → Content
@@ -62,10 +61,6 @@ pub record Follows (h : Content) (rounds : List HeldRound) (c : Content) : Type 
   pub in-time : (s : Stream) → List·Mem s (streams-in h) → (m : ℕ) → m < times-sent (s .number) rounds → IsSentInTime rounds s m
   pub of-streams : (r : HeldRound) → List·Mem r rounds → (id : ℕ) → List·Mem id (r .ids) → HasId id (h .table)
 
--- records that the rules see alike are equal
-same-seen : {q r : Record} → stream-of q ≡ stream-of r → q ≡ r
-same-seen same = λ i. record { id = same i .number; period = same i .period; deadline = same i .deadline; release = same i .release }
-
 -- before the first round
 no-rounds : (h : Content) → Follows h [] h
 unfolding last-of times-sent
@@ -73,7 +68,7 @@ no-rounds h =
     record {
       holds =
           let table : map (record-sent []) (h .table) ≡ h .table =
-          map-congr-left {l = h .table} (λ r m. same-seen (advanced-none (stream-of r))) ∙ map-id (h .table) in
+          map-congr-left {l = h .table} (λ r m. ap (with-release r) (ap (λ (x : Stream). x .release) (advanced-none (stream-of r)))) ∙ map-id (h .table) in
           ap (with-table h) (sym table);
       played = [];
       lazy = none;
@@ -102,7 +97,8 @@ module _ (h : Content) (rounds : List HeldRound) (sound : ContentSound (after-ro
   one-more-holds =
       let last : s ≡ last-of (h .last) (rounds ++ (slots-round so-far s ∷ [])) = sym (last-snoc (h .last) rounds (slots-round so-far s)) in
       let table : rounded so-far s .table ≡ map (record-sent (rounds ++ (slots-round so-far s ∷ []))) (h .table) =
-      map-map (sent-at so-far s) (record-sent rounds) (h .table) ∙ map-congr-left {l = h .table} (λ r m. same-seen (one-sent r)) in
+      map-map (sent-at so-far s) (record-sent rounds) (h .table) ∙ map-congr-left {l = h .table}
+      (λ r m. sent-at-release so-far s (record-sent rounds r) ∙ ap (with-release r) (ap (λ (x : Stream). x .release) (one-sent r))) in
       λ i. with-table (with-last h (last i)) (table i)
     where
       one-sent : (r : Record) → stream-of (sent-at so-far s (record-sent rounds r)) ≡ sent-in (rounds ++ (slots-round so-far s ∷ [])) (stream-of r)

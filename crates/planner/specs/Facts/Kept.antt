@@ -16,7 +16,7 @@ use Rattle.rules.specs.Facts.LazyStart.{fits-lazy}
 use Rattle.rules.specs.Facts.RoundKept.{round-kept, round-near}
 use Rattle.rules.specs.Ready.{IsReady}
 use Rattle.rules.specs.Facts.Sums.{all-map}
-use Rattle.table.specs.Table.{stream-of, due-of}
+use Rattle.table.specs.Table.{stream-of, due-of, with-release}
 use Rattle.table.specs.Range.{RecordInRange, RecordsInRange, AreNear}
 use Rattle.table.specs.Changes.{sent}
 use Rattle.table.specs.Facts.Table.{all-streams}
@@ -53,6 +53,14 @@ pub seen-sent-at : (h : Content) (s : ℕ) (r : Record) → stream-of (sent-at h
 seen-sent-at h s r = go (decMem ℕ-discrete (r .id) (ids-at h s))
   where
     go : (d : Dec (List·Mem (r .id) (ids-at h s))) → stream-of (ite d (sent r) r) ≡ ite d (next (stream-of r)) (stream-of r)
+    go (yes served) = refl
+    go (no other) = refl
+
+-- serving a record changes nothing of it but its release
+pub sent-at-release : (h : Content) (s : ℕ) (r : Record) → sent-at h s r ≡ with-release r (sent-at h s r .release)
+sent-at-release h s r = go (decMem ℕ-discrete (r .id) (ids-at h s))
+  where
+    go : (d : Dec (List·Mem (r .id) (ids-at h s))) → ite d (sent r) r ≡ with-release r (ite d (sent r) r .release)
     go (yes served) = refl
     go (no other) = refl
 

@@ -74,7 +74,7 @@ fn held(done: Rounded, ids: [u16; 64]) -> Answered
     };
     Answered {
         planner,
-        letter: 82,
+        letter: b'R',
         numbers,
     }
 }
@@ -84,7 +84,7 @@ fn opened(slots: u32, frame: u32, gap: u32, last: u32) -> Answered
 {
     let done = planner::open(slots, frame, gap, last);
     let after = done.planner;
-    one(after, 79, done.answer as u64)
+    one(after, b'O', done.answer as u64)
 }
 
 fn added(planner: Planner, id: u32, start: u32, period: u32, deadline: u32) -> Answered
@@ -92,7 +92,7 @@ fn added(planner: Planner, id: u32, start: u32, period: u32, deadline: u32) -> A
 {
     let done = planner::add(planner, id, start, period, deadline);
     let after = done.planner;
-    two(after, 65, id as u64, done.answer as u64)
+    two(after, b'A', id as u64, done.answer as u64)
 }
 
 fn removed(planner: Planner, id: u32) -> Answered
@@ -100,7 +100,7 @@ fn removed(planner: Planner, id: u32) -> Answered
 {
     let done = planner::remove(planner, id);
     let after = done.planner;
-    two(after, 68, id as u64, done.answer as u64)
+    two(after, b'D', id as u64, done.answer as u64)
 }
 
 // A round: its ids are taken from a buffer of 64 places, which is never too short.
@@ -111,7 +111,7 @@ fn rounded(planner: Planner) -> Answered
     let done = planner::round(planner, &mut ids);
     if done.answer != 0 {
         let after = done.planner;
-        return one(after, 82, done.answer as u64);
+        return one(after, b'R', done.answer as u64);
     }
     held(done, ids)
 }
@@ -125,6 +125,6 @@ pub fn answer(planner: Planner, number: u64, command: Command) -> Answered
         Command::Add(id, start, period, deadline) => added(planner, id, start, period, deadline),
         Command::Remove(id) => removed(planner, id),
         Command::Round => rounded(planner),
-        Command::Malformed => two(planner, 69, 20, number),
+        Command::Malformed => two(planner, b'E', 20, number),
     }
 }

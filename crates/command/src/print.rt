@@ -38,7 +38,7 @@ pub fn put_field_in_range(out: &mut [u8], at: usize, value: u64) -> usize
     requires { ⌜ at + 21 ≤ length (now out) ⌝ }
     ensures { λ r. ⌜ IsPut (λ bytes. IsFields bytes (value ∷ []) × (length bytes ≤ 21)) (now (out .entry)) (now (out .exit)) at r ⌝ }
 {
-    let end = put_byte_in_range(out, at, 44);
+    let end = put_byte_in_range(out, at, b',');
     put_number_in_range(out, end, value)
 }
 
@@ -55,5 +55,5 @@ pub fn put_line_in_range(out: &mut [u8], at: usize, letter: u8, numbers: Numbers
         end = put_field_in_range(out, end, values[i]);
         i += 1;
     }
-    put_byte_in_range(out, end, 10)
+    put_byte_in_range(out, end, b'\n')
 }

@@ -19,7 +19,7 @@ fn read_field(line: &[u8], at: usize) -> Number
     requires { ⌜ at < length (now line) ⌝ }
     ensures { λ r. ⌜ IsReadField (now (line .entry)) at r ⌝ }
 {
-    if line[at] != 44 {
+    if line[at] != b',' {
         return Number::Bad;
     }
     let first = at + 1;
@@ -69,18 +69,18 @@ fn command_of(letter: u8, fields: Fields) -> Command
     let count = fields.count;
     let values = fields.values;
     if count == 4 {
-        if letter == 79 {
+        if letter == b'O' {
             return Command::Open(values[0], values[1], values[2], values[3]);
         }
-        if letter == 65 {
+        if letter == b'A' {
             return Command::Add(values[0], values[1], values[2], values[3]);
         }
         return Command::Malformed;
     }
-    if count == 1 && letter == 68 {
+    if count == 1 && letter == b'D' {
         return Command::Remove(values[0]);
     }
-    if count == 0 && letter == 82 {
+    if count == 0 && letter == b'R' {
         return Command::Round;
     }
     Command::Malformed

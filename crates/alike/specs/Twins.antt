@@ -4,9 +4,10 @@ use mathlib.Core.List.{List, [], _∷_}
 use Prim.Native.Nat.{ℕ}
 use Rattle.planner.specs.Content.{content}
 use Rattle.planner.specs.Sound.{Sound}
-use Rattle.planner.specs.Open.{Setting, IsOpened}
+use Rattle.planner.specs.Open.{IsOpened}
 use Rattle.planner.specs.AddRemove.{Offer, IsAdd, IsRemove}
 use Rattle.planner.specs.Round.{IsRound}
+use Rattle.planner.specs.declared.Setting.{Setting}
 use Rattle.planner.specs.declared.Planner.{Planner}
 use Rattle.planner.specs.declared.Changed.{Changed}
 use Rattle.planner.specs.declared.Rounded.{Rounded}
@@ -18,7 +19,7 @@ pub data AreTwins (p q : Planner) : Type 0 where
 
 -- Annex 12.24: a call as it is made, with any values and any buffer ..
 pub data Call : Type 0 where
-  opening : (s : Setting) → Call
+  opening : (s : Setting) (t : ℕ) → Call
   add : (o : Offer) → Call
   remove : (id : ℕ) → Call
   round : (buffer : List ℕ) → Call
@@ -30,7 +31,7 @@ pub data Outcome : Type 0 where
 
 -- Annex 12.24: a call made on p, whatever it answers: what it gives by its contract, and the planner that it hands back. A further call is a line here.
 pub data Gives (p : Planner) : Call → Outcome → Planner → Type 0 where
-  opens : (s : Setting) (r : Changed) → IsOpened s r → Gives p (opening s) (change (r .answer)) (r .planner)
+  opens : (s : Setting) (t : ℕ) (r : Changed) → IsOpened s t r → Gives p (opening s t) (change (r .answer)) (r .planner)
   adds : (o : Offer) (r : Changed) → IsAdd p o r → Gives p (add o) (change (r .answer)) (r .planner)
   removes : (id : ℕ) (r : Changed) → IsRemove p id r → Gives p (remove id) (change (r .answer)) (r .planner)
   rounds : (before after : List ℕ) (r : Rounded) → IsRound p before after r

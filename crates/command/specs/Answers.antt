@@ -3,9 +3,10 @@ use mathlib.Core.Path.{_≡_}
 use mathlib.Core.List.{List, [], _∷_}
 use Prim.Native.Nat.{ℕ, _≤_}
 use lib.ListN.{length, take}
-use Rattle.planner.specs.Open.{Setting, setting, IsOpened}
+use Rattle.planner.specs.Open.{setting, IsOpened}
 use Rattle.planner.specs.AddRemove.{Offer, offer, IsAdd, IsRemove}
 use Rattle.planner.specs.Round.{IsRound}
+use Rattle.planner.specs.declared.Setting.{Setting}
 use Rattle.planner.specs.declared.Planner.{Planner}
 use Rattle.planner.specs.declared.Changed.{Changed}
 use Rattle.planner.specs.declared.Rounded.{Rounded}
@@ -21,9 +22,9 @@ pub record Gives (p : Planner) (l : ℕ) (ns : List ℕ) (r : Answered) : Type 0
   pub few : r .numbers .count ≤ 68
 
 -- Annex 11.12, 11.13: O is open, whatever was open before: the planner is the one that open hands back, and the line `O,` and its number.
-pub record IsOpenGiven (s : Setting) (r : Answered) : Type 0 where
+pub record IsOpenGiven (s : Setting) (t : ℕ) (r : Answered) : Type 0 where
   pub done : Changed
-  pub by-contract : IsOpened s done
+  pub by-contract : IsOpened s t done
   pub given : Gives (done .planner) 79 (done .answer ∷ []) r
 
 -- Annex 11.14, 11.16: A is add: the planner is the one that add hands back, and the line `A,`, the id as it was read, and the number.
@@ -50,7 +51,7 @@ pub record IsRoundGiven (p : Planner) (r : Answered) : Type 0 where
 
 -- Annex 11.13, 11.20: what is answered to each command by this planner; to a malformed line `E,20,` and its number, and the planner stays.
 abbrev pub IsAnswered : Planner → ℕ → Command → Answered → Type 0
-IsAnswered p number (Open b f g t) r = IsOpenGiven (setting b f g t) r
+IsAnswered p number (Open b f g t) r = IsOpenGiven (setting b f g) t r
 IsAnswered p number (Add id start period deadline) r = IsAddGiven p (offer id start period deadline) r
 IsAnswered p number (Remove id) r = IsRemoveGiven p id r
 IsAnswered p number Round r = IsRoundGiven p r

@@ -9,7 +9,7 @@ use Rattle.command.specs.declared.lines.Reached.{Reached}
 
 -- Annex 11.10: where a run begins: the planner is closed, no line has been read, and nothing written.
 pub record IsBeginning (s : Reached) : Type 0 where
-  pub closed : IsFresh zeros (s .planner)
+  pub closed : IsFresh zeros 0 (s .planner)
   pub number : s .number ≡ 0
   pub from : s .from ≡ 0
   pub end : s .end ≡ 0

@@ -80,7 +80,7 @@ fn held(done: Rounded, ids: [u16; 64]) -> Answered
 }
 
 fn opened(slots: u32, frame: u32, gap: u32, last: u32) -> Answered
-    ensures { λ r. ⌜ IsOpenGiven (setting slots frame gap last) r ⌝ }
+    ensures { λ r. ⌜ IsOpenGiven (setting slots frame gap) last r ⌝ }
 {
     let done = planner::open(slots, frame, gap, last);
     let after = done.planner;

@@ -8,7 +8,7 @@ use planner::Planner;
 
 // The closed planner: what a refused opening gives.
 fn closed() -> Planner
-    ensures { λ r. ⌜ IsFresh zeros r ⌝ }
+    ensures { λ r. ⌜ IsFresh zeros 0 r ⌝ }
 {
     let done = planner::open(0, 0, 0, 0);
     let planner = done.planner;

@@ -45,7 +45,7 @@ pub record IsCut (kept rest : List ℕ) : Type 0 where
 -- Annex 11.10: all bytes read are whole lines and a rest. The lines have been answered, from the closed planner on; p, after n lines, is what they left.
 pub record AreAnswered (read written : List ℕ) (p : Planner) (n : ℕ) (rest : List ℕ) : Type 0 where
   pub first : Planner
-  pub closed : IsFresh zeros first
+  pub closed : IsFresh zeros 0 first
   pub lines : List ℕ
   pub all : read ≡ lines ++ rest
   pub transcript : Transcript first lines written p n

@@ -4,9 +4,10 @@ use mathlib.Core.List.{List, [], _∷_}
 use Prim.Native.Nat.{ℕ, _+_, _*_, _≤_}
 use lib.ListN.{length, take}
 use Rattle.superframe.specs.Superframe.{superframe-of, packed}
-use Rattle.planner.specs.Open.{Setting, setting, IsOpened}
+use Rattle.planner.specs.Open.{setting, IsOpened}
 use Rattle.planner.specs.AddRemove.{Offer, offer, IsAdd, IsRemove}
 use Rattle.planner.specs.Round.{IsRound}
+use Rattle.planner.specs.declared.Setting.{Setting}
 use Rattle.planner.specs.declared.Planner.{Planner}
 use Rattle.planner.specs.declared.Changed.{Changed}
 use Rattle.planner.specs.declared.Rounded.{Rounded}
@@ -25,20 +26,21 @@ Answers p [] = Unit {0}
 Answers p (add-gives o answer ∷ lines) = (r : Changed) → IsAdd p o r → (r .answer ≡ answer) × Answers (r .planner) lines
 Answers p (remove-gives id answer ∷ lines) = (r : Changed) → IsRemove p id r → (r .answer ≡ answer) × Answers (r .planner) lines
 Answers p (round-gives start n ids ∷ lines) =
-    (before after : List ℕ) (r : Rounded) → p .slots ≤ length before → IsRound p before after r
+    (before after : List ℕ) (r : Rounded) → p .setting .slots ≤ length before → IsRound p before after r
     → ((r .answer ≡ 0) × (r .start ≡ start) × (r .n ≡ n) × (take (r .n) after ≡ ids)) × Answers (r .planner) lines
 Answers p (round-refused answer ∷ lines) =
-    (before after : List ℕ) (r : Rounded) → p .slots ≤ length before → IsRound p before after r → (r .answer ≡ answer) × Answers (r .planner) lines
+    (before after : List ℕ) (r : Rounded) → p .setting .slots ≤ length before → IsRound p before after r → (r .answer ≡ answer) × Answers (r .planner) lines
 
--- Annex 12.21: a case: what open is passed, and the lines after it; or the periods passed to superframe, with the answer and the value.
+-- Annex 12.21: a case: what open is passed, a setting and T, and the lines after it; or the periods passed to superframe, with the answer and
+-- the value.
 pub data Case : Type 0 where
-  planner-case : Setting → (lines : List Line) → Case
+  planner-case : Setting → (last : ℕ) (lines : List Line) → Case
   superframe-case : (periods : List ℕ) (answer value : ℕ) → Case
 
 -- Annex 12.21: whatever open hands back by its contract, it has succeeded, and the lines hold from there. Whatever number superframe returns by its
 -- contract, it is the answer × 65,536, plus the value.
 unfoldable pub Holds : Case → Type 0
-Holds (planner-case s lines) = (r : Changed) → IsOpened s r → (r .answer ≡ 0) × Answers (r .planner) lines
+Holds (planner-case s t lines) = (r : Changed) → IsOpened s t r → (r .answer ≡ 0) × Answers (r .planner) lines
 Holds (superframe-case periods answer value) = (r : ℕ) → r ≡ packed (superframe-of periods) → r ≡ answer * 65_536 + value
 
 -- Annex 12.21: tables on the edge. A stream is written (S,P,D).
@@ -50,15 +52,15 @@ Holds (superframe-case periods answer value) = (r : ℕ) → r ≡ packed (super
 -- Superframe: 5, 7, 15 give 105; 240, 7, 9 give 5,040; 240, 7, 11 get 19.
 unfoldable pub starred : List Case
 starred =
-    planner-case (setting 2 6 6 0)
+    planner-case (setting 2 6 6) 0
     (add-gives (offer 1 1 3 2) 0 ∷ add-gives (offer 2 1 6 6) 0 ∷ add-gives (offer 3 2 6 5) 0
     ∷ round-gives 2 2 (1 ∷ 2 ∷ []) ∷ round-gives 5 2 (1 ∷ 3 ∷ []) ∷ round-gives 8 2 (1 ∷ 2 ∷ []) ∷ [])
-    ∷ planner-case (setting 1 2 9 0) (add-gives (offer 1 1 2 1) 0 ∷ add-gives (offer 2 2 2 1) 12 ∷ [])
-    ∷ planner-case (setting 1 10 20 0)
+    ∷ planner-case (setting 1 2 9) 0 (add-gives (offer 1 1 2 1) 0 ∷ add-gives (offer 2 2 2 1) 12 ∷ [])
+    ∷ planner-case (setting 1 10 20) 0
     (add-gives (offer 1 1 10 10) 0 ∷ add-gives (offer 2 1 10 10) 0 ∷ round-gives 9 1 (1 ∷ [])
     ∷ add-gives (offer 3 10 10 1) 13 ∷ add-gives (offer 3 11 10 1) 0 ∷ [])
-    ∷ planner-case (setting 1 240 20 0) (add-gives (offer 1 1 240 240) 0 ∷ round-gives 21 1 (1 ∷ []) ∷ round-gives 42 0 [] ∷ [])
-    ∷ planner-case (setting 1 1 1 999_999_999) (add-gives (offer 1 1_000_000_000 1 1) 0 ∷ round-gives 1_000_000_000 1 (1 ∷ []) ∷ round-refused 17 ∷ [])
+    ∷ planner-case (setting 1 240 20) 0 (add-gives (offer 1 1 240 240) 0 ∷ round-gives 21 1 (1 ∷ []) ∷ round-gives 42 0 [] ∷ [])
+    ∷ planner-case (setting 1 1 1) 999_999_999 (add-gives (offer 1 1_000_000_000 1 1) 0 ∷ round-gives 1_000_000_000 1 (1 ∷ []) ∷ round-refused 17 ∷ [])
     ∷ superframe-case (5 ∷ 7 ∷ 15 ∷ []) 0 105
     ∷ superframe-case (240 ∷ 7 ∷ 9 ∷ []) 0 5040
     ∷ superframe-case (240 ∷ 7 ∷ 11 ∷ []) 19 0
@@ -73,20 +75,20 @@ starred =
 -- B=2, with 2 as (3,12,6) and 3 as (1,12,8): at 7 the ids are 3, 2, at 8 it is 1. B=1, streams 9, 4 and 7, each (1,12,8): 4 at 6, 7 at 7, 9 at 8.
 unfoldable pub later : List Case
 later =
-    planner-case (setting 2 6 6 0)
+    planner-case (setting 2 6 6) 0
     (round-gives 7 0 [] ∷ round-gives 14 0 [] ∷ round-gives 21 0 []
     ∷ add-gives (offer 1 22 3 2) 0 ∷ round-gives 23 1 (1 ∷ []) ∷ remove-gives 1 0 ∷ round-gives 30 0 [] ∷ [])
-    ∷ planner-case (setting 2 6 2 999_999_997) (round-gives 1_000_000_000 0 [] ∷ round-refused 17 ∷ [])
-    ∷ planner-case (setting 2 6 2 999_999_998) (round-refused 17 ∷ [])
-    ∷ planner-case (setting 1 12 1 0) (round-gives 2 0 [] ∷ round-gives 4 0 [] ∷ [])
-    ∷ planner-case (setting 1 12 255 0) (round-gives 256 0 [] ∷ round-gives 512 0 [] ∷ [])
-    ∷ planner-case (setting 1 12 5 0) (add-gives (offer 1 1 12 5) 0 ∷ round-gives 5 1 (1 ∷ []) ∷ [])
-    ∷ planner-case (setting 1 12 5 0) (add-gives (offer 1 1 12 6) 0 ∷ round-gives 6 1 (1 ∷ []) ∷ [])
-    ∷ planner-case (setting 1 12 5 0) (add-gives (offer 1 1 12 7) 0 ∷ round-gives 6 1 (1 ∷ []) ∷ [])
-    ∷ planner-case (setting 1 12 20 0) (add-gives (offer 1 5 12 4) 0 ∷ add-gives (offer 2 1 12 8) 0 ∷ round-gives 7 1 (2 ∷ []) ∷ round-gives 8 1 (1 ∷ []) ∷ [])
-    ∷ planner-case (setting 2 12 20 0)
+    ∷ planner-case (setting 2 6 2) 999_999_997 (round-gives 1_000_000_000 0 [] ∷ round-refused 17 ∷ [])
+    ∷ planner-case (setting 2 6 2) 999_999_998 (round-refused 17 ∷ [])
+    ∷ planner-case (setting 1 12 1) 0 (round-gives 2 0 [] ∷ round-gives 4 0 [] ∷ [])
+    ∷ planner-case (setting 1 12 255) 0 (round-gives 256 0 [] ∷ round-gives 512 0 [] ∷ [])
+    ∷ planner-case (setting 1 12 5) 0 (add-gives (offer 1 1 12 5) 0 ∷ round-gives 5 1 (1 ∷ []) ∷ [])
+    ∷ planner-case (setting 1 12 5) 0 (add-gives (offer 1 1 12 6) 0 ∷ round-gives 6 1 (1 ∷ []) ∷ [])
+    ∷ planner-case (setting 1 12 5) 0 (add-gives (offer 1 1 12 7) 0 ∷ round-gives 6 1 (1 ∷ []) ∷ [])
+    ∷ planner-case (setting 1 12 20) 0 (add-gives (offer 1 5 12 4) 0 ∷ add-gives (offer 2 1 12 8) 0 ∷ round-gives 7 1 (2 ∷ []) ∷ round-gives 8 1 (1 ∷ []) ∷ [])
+    ∷ planner-case (setting 2 12 20) 0
     (add-gives (offer 1 5 12 4) 0 ∷ add-gives (offer 2 3 12 6) 0 ∷ add-gives (offer 3 1 12 8) 0 ∷ round-gives 7 2 (3 ∷ 2 ∷ []) ∷ round-gives 8 1 (1 ∷ []) ∷ [])
-    ∷ planner-case (setting 1 12 20 0)
+    ∷ planner-case (setting 1 12 20) 0
     (add-gives (offer 9 1 12 8) 0 ∷ add-gives (offer 4 1 12 8) 0 ∷ add-gives (offer 7 1 12 8) 0
     ∷ round-gives 6 1 (4 ∷ []) ∷ round-gives 7 1 (7 ∷ []) ∷ round-gives 8 1 (9 ∷ []) ∷ [])
     ∷ []

@@ -6,9 +6,10 @@ use Prim.Native.Nat.{ℕ}
 use Rattle.basics.specs.Refusals.{FirstOf}
 use Rattle.planner.specs.Content.{content}
 use Rattle.planner.specs.Sound.{Sound}
-use Rattle.planner.specs.Open.{Setting, zeros, open-refusals, opened, IsFresh, IsOpened}
+use Rattle.planner.specs.Open.{zeros, open-refusals, opened, IsFresh, IsOpened}
 use Rattle.planner.specs.AddRemove.{Offer, add-refusals, remove-refusals, IsAdd, IsRemove}
 use Rattle.planner.specs.Round.{round-refusals, IsRefusedRound, IsRound}
+use Rattle.planner.specs.declared.Setting.{Setting}
 use Rattle.planner.specs.declared.Planner.{Planner}
 use Rattle.planner.specs.declared.Changed.{Changed}
 use Rattle.planner.specs.declared.Rounded.{Rounded}
@@ -18,11 +19,11 @@ use Rattle.demands.specs.OtherCalls.{OtherCallsMeet}
 
 -- Annex 12.2, 12.3: open gives the first number that applies, else 0; success gives a sound planner with B, F, G and L = T as passed and no stream, a
 -- refusal the closed one, which is not sound.
-pub record OpenMeets (s : Setting) (r : Changed) : Type 1 where
-  pub answer : FirstOf (open-refusals s) (r .answer)
+pub record OpenMeets (s : Setting) (t : ℕ) (r : Changed) : Type 1 where
+  pub answer : FirstOf (open-refusals s t) (r .answer)
   pub sound : r .answer ≡ 0 → Sound (r .planner)
-  pub opened : r .answer ≡ 0 → content (r .planner) ≡ opened s
-  pub closed : (r .answer ≡ 0 → ⊥) → IsFresh zeros (r .planner)
+  pub opened : r .answer ≡ 0 → content (r .planner) ≡ opened s t
+  pub closed : (r .answer ≡ 0 → ⊥) → IsFresh zeros 0 (r .planner)
   pub not-sound : (r .answer ≡ 0 → ⊥) → Sound (r .planner) → ⊥
 
 -- Annex 12.2, 12.3: add gives the first number that applies, else 0; a refusal changes nothing, and a sound planner stays sound.
@@ -46,11 +47,11 @@ pub record RoundMeets (p : Planner) (before after : List ℕ) (r : Rounded) : Ty
 -- Annex 7.1, 11.10, 12.1, 12.3: all four calls, by value and over a lent planner, on any planner, sound or not, any numbers and any buffer, by the
 -- contracts that their code is proved to meet, and the other calls likewise; nothing is asked of the caller.
 pub record Demand1 : Type 1 where
-  pub open-meets : (s : Setting) (r : Changed) → IsOpened s r → OpenMeets s r
+  pub open-meets : (s : Setting) (t : ℕ) (r : Changed) → IsOpened s t r → OpenMeets s t r
   pub add-meets : (p : Planner) (o : Offer) (r : Changed) → IsAdd p o r → AddMeets p o r
   pub remove-meets : (p : Planner) (id : ℕ) (r : Changed) → IsRemove p id r → RemoveMeets p id r
   pub round-meets : (p : Planner) (before after : List ℕ) (r : Rounded) → IsRound p before after r → RoundMeets p before after r
-  pub lent-open-meets : (s : Setting) (after : Planner) (r : ℕ) → IsLentOpen s after r → OpenMeets s (record { answer = r; planner = after })
+  pub lent-open-meets : (s : Setting) (t : ℕ) (after : Planner) (r : ℕ) → IsLentOpen s t after r → OpenMeets s t (record { answer = r; planner = after })
   pub lent-add-meets : (before : Planner) (o : Offer) (after : Planner) (r : ℕ) → IsLentAdd before o after r
       → AddMeets before o (record { answer = r; planner = after })
   pub lent-remove-meets : (before : Planner) (id : ℕ) (after : Planner) (r : ℕ) → IsLentRemove before id after r

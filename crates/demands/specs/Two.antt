@@ -8,9 +8,9 @@ use Rattle.basics.specs.Limits.{last-start}
 use Rattle.rules.specs.Streams.{Packet, at-zero}
 use Rattle.rules.specs.Slots.{IsSlots, slots}
 use Rattle.rules.specs.Plans.{Servable}
-use Rattle.planner.specs.Content.{Content, content, now-of, cap-of, with-last, slots-of, streams-in}
+use Rattle.planner.specs.Content.{Content, content, now-of, cap-of, slots-of, streams-in}
 use Rattle.planner.specs.Sound.{Sound}
-use Rattle.planner.specs.Open.{setting-of, opened}
+use Rattle.planner.specs.Open.{opened}
 use Rattle.planner.specs.AddRemove.{Offer, added, IsWellFormed, IsSoundWith, IsAdd}
 use Rattle.planner.specs.Round.{IsHeldRound, IsRound}
 use Rattle.planner.specs.Start.{IsStart}
@@ -35,7 +35,7 @@ pub record RoundIsAtCap (p : Planner) (before after : List ℕ) (r : Rounded) : 
   pub start : r .answer ≡ 0 → r .start ≡ cap-of (content p)
   pub n : r .answer ≡ 0 → r .n ≡ 0
   pub buffer : r .answer ≡ 0 → after ≡ before
-  pub leaves : r .answer ≡ 0 → content (r .planner) ≡ opened (setting-of (with-last (content p) (cap-of (content p))))
+  pub leaves : r .answer ≡ 0 → content (r .planner) ≡ opened (p .setting) (cap-of (content p))
 
 -- Annex 12.4: there is a lazy start; the round is held exactly if it is at most 1,000,000,000, and gets 17 exactly if not. Held, it is as `IsHeldRound`
 -- states by the lazy rule and the slot rule, and the slots are said of all packets that may ride; without streams it is at the cap.
@@ -66,6 +66,6 @@ pub record AddIsExact (h : Content) (r : Changed) : Type 0 where
 
 -- Annex 12.4, 12.5: of every sound planner: each round into a buffer of at least B places, and each add of a well-formed stream with a place free.
 pub record Demand2 : Type 0 where
-  pub round-is-lazy : (p : Planner) → Sound p → (before after : List ℕ) → content p .slots ≤ length before
+  pub round-is-lazy : (p : Planner) → Sound p → (before after : List ℕ) → content p .setting .slots ≤ length before
       → (r : Rounded) → IsRound p before after r → RoundIsLazy p before after r
   pub add-is-exact : (p : Planner) → Sound p → (o : Offer) → IsWellFormed (content p) o → (r : Changed) → IsAdd p o r → AddIsExact (added (content p) o) r

@@ -1,15 +1,16 @@
 -- What the forms over a lent planner promise: the same as the calls by value, with the planner behind the reference at exit.
 use mathlib.Core.List.{List}
 use Prim.Native.Nat.{ℕ}
-use Rattle.planner.specs.Open.{Setting, IsOpened}
+use Rattle.planner.specs.Open.{IsOpened}
 use Rattle.planner.specs.AddRemove.{Offer, IsAdd, IsRemove}
 use Rattle.planner.specs.Round.{IsRound}
+use Rattle.planner.specs.declared.Setting.{Setting}
 use Rattle.planner.specs.declared.Planner.{Planner}
 use Rattle.lent.specs.declared.Held.{Held}
 
 -- Annex 7.35: the answer, and the planner at exit, are those of open, whatever the planner was.
-abbrev pub IsLentOpen : Setting → Planner → ℕ → Type 0
-IsLentOpen s after r = IsOpened s (record { answer = r; planner = after })
+abbrev pub IsLentOpen : Setting → ℕ → Planner → ℕ → Type 0
+IsLentOpen s t after r = IsOpened s t (record { answer = r; planner = after })
 
 -- Annex 7.35: the answer, and the planner at exit, are those of add for the planner at entry.
 abbrev pub IsLentAdd : Planner → Offer → Planner → ℕ → Type 0

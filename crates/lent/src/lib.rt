@@ -18,7 +18,7 @@ pub struct Held {
 // Opens the lent planner, whatever it held; the answer is that of open.
 #[no_mangle]
 pub extern "C" fn planner_open(p: &mut Planner, slots: u32, frame: u32, gap: u32, last: u32) -> u32
-    ensures { λ r. ⌜ IsLentOpen (setting slots frame gap last) (now (p .exit)) r ⌝ }
+    ensures { λ r. ⌜ IsLentOpen (setting slots frame gap) last (now (p .exit)) r ⌝ }
 {
     let opened = planner::open(slots, frame, gap, last);
     *p = opened.planner;

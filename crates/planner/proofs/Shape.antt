@@ -11,4 +11,4 @@ use Rattle.planner.proofs.Planner
 
 -- the table of a planner that a function is handed has 64 places
 pub planner-shape : (p : Planner) (vs : List Val) → Is (row Rattle.planner.proofs.Planner.the-type) p vs → length (p .table .streams) ≡ 64
-planner-shape p vs is = let fields = is .1 .1 in table-shape (p .table) _ (fields .1 .1 .1 .1 .0)
+planner-shape p vs is = let fields = is .1 .1 in table-shape (p .table) _ (fields .1 .1 .0)

@@ -11,7 +11,7 @@ use Rattle.rules.specs.Demand.{DemandRule, StartRule}
 use Rattle.rules.specs.Decide.{decide-demand-rule, decide-start-rule}
 use Rattle.table.specs.declared.Record.{Record}
 use Rattle.table.specs.Changes.{HasId, decide-id, put-by-id, without-id}
-use Rattle.planner.specs.Content.{Content, content, slots-of, streams-in, now-of, with-table}
+use Rattle.planner.specs.Content.{Content, content, slots-of, frame-of, streams-in, now-of, with-table}
 use Rattle.planner.specs.Sound.{Sound}
 use Rattle.planner.specs.Decide.{decide-sound}
 use Rattle.planner.specs.Open.{not-in}
@@ -62,8 +62,8 @@ abbrev pub bad-period : ℕ → Content → Refusal
 bad-period period h =
     record {
       number = 9;
-      Applies = (((1 ≤ period) × (period ≤ 240)) × (period ∣ h .frame)) → ⊥;
-      decided = Dec·not (Dec·and (Dec·and (decLe 1 period) (decLe period 240)) (decDvd period (h .frame)));
+      Applies = (((1 ≤ period) × (period ≤ 240)) × (period ∣ frame-of h)) → ⊥;
+      decided = Dec·not (Dec·and (Dec·and (decLe 1 period) (decLe period 240)) (decDvd period (frame-of h)));
     }
 
 -- Annex 7.16: 10 unless D is 1 to P.
@@ -112,7 +112,7 @@ pub record IsWellFormed (h : Content) (o : Offer) : Type 0 where
   pub new : HasId (o .id) (h .table) → ⊥
   pub place-free : length (h .table) < places
   pub period-range : (1 ≤ o .period) × (o .period ≤ 240)
-  pub divides : o .period ∣ h .frame
+  pub divides : o .period ∣ frame-of h
   pub deadline-range : (1 ≤ o .deadline) × (o .deadline ≤ o .period)
   pub start-range : (now-of h ≤ o .start) × (o .start ≤ now-of h + 239)
 

@@ -3,16 +3,20 @@ use mathlib.Core.Path.{sym, subst}
 use mathlib.Core.Logic.{Dec·and, ∥∥₁-elim}
 use mathlib.Core.List.{List, List·Mem, List·Mem-prop, decidableBAll, decidableBEx, decMem, instDecidablePairwise}
 use Prim.Native.Nat.{ℕ, _+_, _≤_, _<_}
-use native.Mathlib.Decide.{decLe, decLt, decDvd, map-dec}
+use native.Mathlib.Decide.{ℕ-discrete, decLe, decLt, decDvd, map-dec}
 use lib.ListN.{length}
+use Rattle.basics.specs.Refusals.{answer-of}
 use Rattle.rules.specs.Decide.{decide-demand-rule, decide-start-rule}
 use Rattle.table.specs.Table.{due-of}
 use Rattle.table.specs.Range.{RecordInRange, RecordsInRange, AreNear}
 use Rattle.table.specs.declared.Record.{Record}
 use Rattle.queue.specs.Interface.{Entry, entries, entry-discrete}
 use Rattle.queue.specs.Interface
-use Rattle.planner.specs.Content.{Content, content, slots-of, streams-in, now-of, cap-of}
+use Rattle.planner.specs.Content.{Content, content, slots-of, frame-of, streams-in, now-of, cap-of}
 use Rattle.planner.specs.Sound.{InRange, ContentSound, entry-of, Files, Sound}
+use Rattle.planner.specs.declared.Setting.{Setting}
+use Rattle.planner.specs.Open.{open-refusals}
+use Rattle.planner.specs.Facts.Open.{NumbersInRange, range-numbers, in-range-by-numbers, open-passes, open-in-range}
 use Rattle.planner.specs.declared.Planner.{Planner}
 use Rattle.rules.specs.Slots.{slots}
 use Rattle.rules.specs.Facts.LazyStart.{lazy-unique}
@@ -42,15 +46,14 @@ decide-near now rs =
     map-dec (λ w. record { due-after = w .0; released = w .1 }) (λ r. (r .due-after, r .released))
     (Dec·and (decidableBAll (λ (r : Record). decLt now (due-of r)) rs) (decidableBAll (λ (r : Record). decLe (r .release) (now + 239)) rs))
 
+-- the numbers are in range exactly if open does not refuse them
+decide-numbers : (s : Setting) (t : ℕ) → Dec (NumbersInRange s t)
+decide-numbers s t = map-dec open-in-range (λ numbers. sym (open-passes numbers)) (ℕ-discrete (answer-of (open-refusals s t)) 0)
+
 decide-in-range : (h : Content) → Dec (InRange h)
 decide-in-range h =
-    map-dec
-    (λ w. record { slots = w .0; frame = w .1 .0; gap = w .1 .1 .0; last = w .1 .1 .1 .0; at-most = w .1 .1 .1 .1 .0; records = w .1 .1 .1 .1 .1 })
-    (λ r. (r .slots, (r .frame, (r .gap, (r .last, (r .at-most, r .records))))))
-    (Dec·and (decide-within 64 (h .slots))
-    (Dec·and (decide-within 5040 (h .frame))
-    (Dec·and (decide-within 255 (h .gap))
-    (Dec·and (decLe (h .last) 1_000_000_000) (Dec·and (decLe (length (h .table)) 64) (decide-records (h .frame) (h .table)))))))
+    map-dec (λ w. in-range-by-numbers (w .0) (w .1 .0) (w .1 .1)) (λ r. (range-numbers r, (r .at-most, r .records)))
+    (Dec·and (decide-numbers (h .setting) (h .last)) (Dec·and (decLe (length (h .table)) 64) (decide-records (frame-of h) (h .table))))
 
 decide-content : (h : Content) → Dec (ContentSound h)
 decide-content h =

@@ -41,7 +41,7 @@ IsFiled table q = Interface.Sound q × Files (entries q) (records-of table)
 
 -- The planner with another last start, table and queue.
 abbrev pub stored : Planner → ℕ → Table → Queue → Planner
-stored p last table queue = record { slots = p .slots; frame = p .frame; gap = p .gap; last = last; table = table; queue = queue }
+stored p last table queue = record { setting = p .setting; last = last; table = table; queue = queue }
 
 -- What the test of the two rules relies on: that none of 5 to 11 applies ..
 pub record CanTest (p : Planner) (o : Offer) : Type 0 where

@@ -13,6 +13,7 @@ use Rattle.queue.specs.Interface.{empty-queue}
 use Rattle.queue.specs.declared.Queue.{Queue}
 use Rattle.planner.specs.Content.{Content, content}
 use Rattle.planner.specs.declared.Planner.{Planner}
+use Rattle.planner.specs.declared.Setting.{Setting}
 use Rattle.planner.specs.declared.Changed.{Changed}
 
 -- Annex 7.6: the refusal with this number, which applies unless n is 1 to a limit.
@@ -23,56 +24,45 @@ not-in number limit n = record { number = number; Applies = ((1 ≤ n) × (n ≤
 abbrev pub late : ℕ → Refusal
 late t = record { number = 4; Applies = last-start < t; decided = decLt last-start t }
 
--- Annex 7.1, 7.5: what open is passed, any numbers: B, F, G, and T, taken for the start of the last round.
-pub record Setting : Type 0 where
-  pub slots : ℕ
-  pub frame : ℕ
-  pub gap : ℕ
-  pub last : ℕ
-
--- Annex 7.5: these numbers, in the order of B, F, G and T, as a setting.
-abbrev pub setting : (slots frame gap last : ℕ) → Setting
-setting slots frame gap last = record { slots = slots; frame = frame; gap = gap; last = last }
+-- Annex 7.1, 7.5: what open is passed beside T, any numbers, in the order of B, F and G, as a setting.
+abbrev pub setting : (slots frame gap : ℕ) → Setting
+setting slots frame gap = record { slots = slots; frame = frame; gap = gap }
 
 -- Annex 3.12: the setting of the closed planner.
 abbrev pub zeros : Setting
-zeros = setting 0 0 0 0
-
--- Annex 7.7: what open would be passed to give a planner these numbers.
-abbrev pub setting-of : Content → Setting
-setting-of h = setting (h .slots) (h .frame) (h .gap) (h .last)
+zeros = setting 0 0 0
 
 -- Annex 7.6: the refusals of open: 1 unless B is 1 to 64, 2 unless F is 1 to 5,040, 3 unless G is 1 to 255, and 4 if T is too late.
-abbrev pub open-refusals : Setting → List Refusal
-open-refusals s = not-in 1 most-slots (s .slots) ∷ not-in 2 5040 (s .frame) ∷ not-in 3 255 (s .gap) ∷ late (s .last) ∷ []
+abbrev pub open-refusals : Setting → ℕ → List Refusal
+open-refusals s t = not-in 1 most-slots (s .slots) ∷ not-in 2 5040 (s .frame) ∷ not-in 3 255 (s .gap) ∷ late t ∷ []
 
 -- Annex 7.7: what a planner holds once opened: B, F and G as passed, T for L, and no record.
-abbrev pub opened : Setting → Content
-opened s = record { slots = s .slots; frame = s .frame; gap = s .gap; last = s .last; table = [] }
+abbrev pub opened : Setting → ℕ → Content
+opened s t = record { setting = s; last = t; table = [] }
 
 -- Annex 3.12: what the closed planner holds: 0 for B, F, G and L, and no record.
 abbrev pub closed : Content
-closed = opened zeros
+closed = opened zeros 0
 
 -- Annex 3.12, 7.7: a table with no stream, and zeros at every place for one.
 abbrev pub no-streams : Table
 no-streams = record { count = 0; streams = replicate places no-record }
 
--- Annex 3.12, 7.7: the planner with these numbers, no stream and this queue.
-abbrev pub fresh-with : Setting → Queue → Planner
-fresh-with s queue = record { slots = s .slots; frame = s .frame; gap = s .gap; last = s .last; table = no-streams; queue = queue }
+-- Annex 3.12, 7.7: the planner with this setting and T for L, no stream and this queue.
+abbrev pub fresh-with : Setting → ℕ → Queue → Planner
+fresh-with s t queue = record { setting = s; last = t; table = no-streams; queue = queue }
 
 -- Annex 3.12, 7.7: the planner with these numbers, zeros at every place for a record, and the empty queue; with four zeros it is the closed planner.
-abbrev pub fresh : Setting → Planner
-fresh s = fresh-with s empty-queue
+abbrev pub fresh : Setting → ℕ → Planner
+fresh s t = fresh-with s t empty-queue
 
 -- Annex 7.7: a planner is the fresh one, so that nothing of it is left free, and holds what was passed.
-pub record IsFresh (s : Setting) (p : Planner) : Type 0 where
-  pub whole : p ≡ fresh s
-  pub holds : content p ≡ opened s
+pub record IsFresh (s : Setting) (t : ℕ) (p : Planner) : Type 0 where
+  pub whole : p ≡ fresh s t
+  pub holds : content p ≡ opened s t
 
 -- Annex 7.8: open gives the answer of its refusals; the planner is the fresh one with what was passed, or if refused the closed one.
-pub record IsOpened (s : Setting) (r : Changed) : Type 0 where
-  pub answer : r .answer ≡ answer-of (open-refusals s)
-  pub opened : answer-of (open-refusals s) ≡ 0 → IsFresh s (r .planner)
-  pub closed : (answer-of (open-refusals s) ≡ 0 → ⊥) → IsFresh zeros (r .planner)
+pub record IsOpened (s : Setting) (t : ℕ) (r : Changed) : Type 0 where
+  pub answer : r .answer ≡ answer-of (open-refusals s t)
+  pub opened : answer-of (open-refusals s t) ≡ 0 → IsFresh s t (r .planner)
+  pub closed : (answer-of (open-refusals s t) ≡ 0 → ⊥) → IsFresh zeros 0 (r .planner)

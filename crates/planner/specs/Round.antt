@@ -19,7 +19,7 @@ use Rattle.planner.specs.Start.{IsStart, StartsLate}
 
 -- Annex 7.26: 16 if the buffer has fewer than B places, however many ids there are to write.
 abbrev pub short-buffer : Content → List ℕ → Refusal
-short-buffer h buffer = record { number = 16; Applies = length buffer < h .slots; decided = decLt (length buffer) (h .slots) }
+short-buffer h buffer = record { number = 16; Applies = length buffer < h .setting .slots; decided = decLt (length buffer) (h .setting .slots) }
 
 -- Annex 7.27: 17 if the lazy start is after 1,000,000,000.
 abbrev pub late-start : Planner → Refusal

@@ -11,17 +11,22 @@ use Rattle.table.specs.Range.{RecordsInRange, AreNear}
 use Rattle.table.specs.declared.Record.{Record}
 use Rattle.queue.specs.Interface.{Entry, entries}
 use Rattle.queue.specs.Interface
-use Rattle.planner.specs.Content.{Content, content, slots-of, streams-in, now-of}
+use Rattle.planner.specs.Content.{Content, content, slots-of, frame-of, streams-in, now-of}
 use Rattle.planner.specs.declared.Planner.{Planner}
+use Rattle.planner.specs.declared.Setting.{Setting}
 
--- Annex 3.6: B is 1 to 64, F 1 to 5,040, G 1 to 255, L at most 1,000,000,000; there are at most 64 records, and they are in range (3.7).
+-- Annex 3.6: B is 1 to 64, F 1 to 5,040, G 1 to 255 ..
+pub record SettingInRange (s : Setting) : Type 0 where
+  pub slots : (1 ≤ s .slots) × (s .slots ≤ most-slots)
+  pub frame : (1 ≤ s .frame) × (s .frame ≤ 5040)
+  pub gap : (1 ≤ s .gap) × (s .gap ≤ 255)
+
+-- Annex 3.6: .. L is at most 1,000,000,000; there are at most 64 records, and they are in range (3.7).
 pub record InRange (h : Content) : Type 0 where
-  pub slots : (1 ≤ h .slots) × (h .slots ≤ most-slots)
-  pub frame : (1 ≤ h .frame) × (h .frame ≤ 5040)
-  pub gap : (1 ≤ h .gap) × (h .gap ≤ 255)
+  pub setting : SettingInRange (h .setting)
   pub last : h .last ≤ last-start
   pub at-most : length (h .table) ≤ places
-  pub records : RecordsInRange (h .frame) (h .table)
+  pub records : RecordsInRange (frame-of h) (h .table)
 
 -- Annex 3.9, 3.10: what a planner holds is in range and its records near now (3.6 to 3.8), and they keep the demand rule, and the start rule at now.
 pub record ContentSound (h : Content) : Type 0 where

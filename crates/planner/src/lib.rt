@@ -15,12 +15,18 @@ mod removal;
 mod slots;
 mod soundness;
 
-// B, F, G and L, the streams in ascending id, and the queue that files them under their due times.
+// What opening sets, and nothing changes later: B, F and G.
 #[repr(C)]
-pub struct Planner {
+pub struct Setting {
     pub slots: u32,
     pub frame: u32,
     pub gap: u32,
+}
+
+// The setting and L, the streams in ascending id, and the queue that files them under their due times.
+#[repr(C)]
+pub struct Planner {
+    pub setting: Setting,
     pub last: u32,
     pub table: Table,
     pub queue: Queue,
@@ -72,7 +78,7 @@ fn round_refusal_tested(p: Planner, start: u32, length: usize) -> u32
     if start == 0 {
         return 5;
     }
-    if length < p.slots as usize {
+    if length < p.setting.slots as usize {
         return 16;
     }
     if LAST_START < start {

@@ -31,7 +31,7 @@ fn offer_refusal_sound(p: Planner, id: u32, start: u32, period: u32, deadline: u
     if !table::is_one_to(period, 240) {
         return 9;
     }
-    if p.frame % period != 0 {
+    if p.setting.frame % period != 0 {
         return 9;
     }
     if !table::is_one_to(deadline, period) {
@@ -67,13 +67,13 @@ fn rule_refusal_sound(p: Planner, id: u32, start: u32, period: u32, deadline: u3
     ensures { λ r. ⌜ r ≡ answer-of (rule-refusals (added (content p) (offer id start period deadline))) ⌝ }
 {
     let table = table_with_sound(p, id, start, period, deadline);
-    let busy = table::busy_length_in_range(table, p.slots, p.frame);
+    let busy = table::busy_length_in_range(table, p.setting.slots, p.setting.frame);
     if busy == 0 {
         return 12;
     }
     // Whether there is a start does not depend on the cap, if that is not before now: now is given for it.
     let now = p.last + 1;
-    if table::next_start_in_range(table, p.slots, now, now, busy) == 0 {
+    if table::next_start_in_range(table, p.setting.slots, now, now, busy) == 0 {
         return 13;
     }
     0

@@ -4,14 +4,15 @@ ghost use Rattle.basics.specs.Refusals.{answer-of};
 ghost use Rattle.planner.specs.Open.{setting, open-refusals, IsFresh, IsOpened};
 use super::Changed;
 use super::Planner;
+use super::Setting;
 use basics::LAST_START;
 use basics::MOST_SLOTS;
 use table::Record;
 use table::Table;
 
 // A planner with no stream.
-fn without_streams(slots: u32, frame: u32, gap: u32, last: u32) -> Planner
-    ensures { λ r. ⌜ IsFresh (setting slots frame gap last) r ⌝ }
+fn without_streams(setting: Setting, last: u32) -> Planner
+    ensures { λ r. ⌜ IsFresh setting last r ⌝ }
 {
     let none = Record {
         id: 0,
@@ -23,35 +24,24 @@ fn without_streams(slots: u32, frame: u32, gap: u32, last: u32) -> Planner
     let table = Table { count: 0, streams };
     let queue = queue::empty();
     Planner {
-        slots,
-        frame,
-        gap,
+        setting,
         last,
         table,
         queue,
     }
 }
 
-// What open refuses of these numbers, also where they are those of a planner.
-pub fn open_refusal(slots: u32, frame: u32, gap: u32, last: u32) -> u32
-    ensures { λ r. ⌜ r ≡ answer-of (open-refusals (setting slots frame gap last)) ⌝ }
+// What open refuses of these values, also where they are those of a planner.
+pub fn open_refusal(setting: Setting, last: u32) -> u32
+    ensures { λ r. ⌜ r ≡ answer-of (open-refusals setting last) ⌝ }
 {
-    if slots < 1 {
+    if !table::is_one_to(setting.slots, MOST_SLOTS) {
         return 1;
     }
-    if MOST_SLOTS < slots {
-        return 1;
-    }
-    if frame < 1 {
+    if !table::is_one_to(setting.frame, 5040) {
         return 2;
     }
-    if 5040 < frame {
-        return 2;
-    }
-    if gap < 1 {
-        return 3;
-    }
-    if 255 < gap {
+    if !table::is_one_to(setting.gap, 255) {
         return 3;
     }
     if LAST_START < last {
@@ -61,14 +51,27 @@ pub fn open_refusal(slots: u32, frame: u32, gap: u32, last: u32) -> u32
 }
 
 // A refused opening gives the closed planner: every number 0, no stream, an empty queue.
-pub fn open(slots: u32, frame: u32, gap: u32, last: u32) -> Changed
-    ensures { λ r. ⌜ IsOpened (setting slots frame gap last) r ⌝ }
+fn open_with(setting: Setting, last: u32) -> Changed
+    ensures { λ r. ⌜ IsOpened setting last r ⌝ }
 {
-    let answer = open_refusal(slots, frame, gap, last);
+    let answer = open_refusal(setting, last);
     if answer != 0 {
-        let planner = without_streams(0, 0, 0, 0);
+        let zeros = Setting {
+            slots: 0,
+            frame: 0,
+            gap: 0,
+        };
+        let planner = without_streams(zeros, 0);
         return Changed { answer, planner };
     }
-    let planner = without_streams(slots, frame, gap, last);
+    let planner = without_streams(setting, last);
     Changed { answer: 0, planner }
+}
+
+// Annex 7.5 to 7.9: opens a planner with these numbers.
+pub fn open(slots: u32, frame: u32, gap: u32, last: u32) -> Changed
+    ensures { λ r. ⌜ IsOpened (setting slots frame gap) last r ⌝ }
+{
+    let setting = Setting { slots, frame, gap };
+    open_with(setting, last)
 }

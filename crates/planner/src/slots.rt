@@ -53,7 +53,7 @@ pub fn choose_sound(p: Planner, start: u32) -> Chosen
     let mut i: usize = 0;
     while i < table.count {
         let n = chosen.n;
-        if n == p.slots as usize {
+        if n == p.setting.slots as usize {
             return chosen;
         }
         let id = order.ids[i];

@@ -22,21 +22,22 @@ pub fn is_filed_in_range(table: Table, queue: Queue) -> bool
 pub fn sound_start(p: Planner) -> u32
     ensures { λ r. ⌜ IsSoundStart p r ⌝ }
 {
-    if open_refusal(p.slots, p.frame, p.gap, p.last) != 0 {
+    let setting = p.setting;
+    if open_refusal(setting, p.last) != 0 {
         return 0;
     }
     let table = p.table;
     let now = p.last + 1;
-    if !table::in_range(table, p.frame, now) {
+    if !table::in_range(table, setting.frame, now) {
         return 0;
     }
     if !is_filed_in_range(table, p.queue) {
         return 0;
     }
-    let busy = table::busy_length_in_range(table, p.slots, p.frame);
+    let busy = table::busy_length_in_range(table, setting.slots, setting.frame);
     if busy == 0 {
         return 0;
     }
     // The gap runs from the end of the last round, which is now. The sum is at most 1,000,000,256.
-    table::next_start_in_range(table, p.slots, now, now + p.gap, busy)
+    table::next_start_in_range(table, setting.slots, now, now + setting.gap, busy)
 }

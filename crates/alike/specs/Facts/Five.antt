@@ -10,10 +10,11 @@ use Rattle.basics.specs.Facts.Refusals.{answer-first, answer-later, answer-zero
 use Rattle.planner.specs.Content.{Content, content}
 use Rattle.planner.specs.Sound.{Sound}
 use Rattle.planner.specs.Decide.{decide-sound}
-use Rattle.planner.specs.Open.{Setting, open-refusals, IsOpened}
+use Rattle.planner.specs.Open.{open-refusals, IsOpened}
 use Rattle.planner.specs.AddRemove.{Offer, unsound, not-held, IsChange, IsAdd, IsRemove}
 use Rattle.planner.specs.Round.{short-buffer, late-start, IsRound}
 use Rattle.planner.specs.Facts.Calls.{refused-change, change-keeps-sound, refused-round, round-keeps-sound, held-is-sound}
+use Rattle.planner.specs.declared.Setting.{Setting}
 use Rattle.planner.specs.declared.Planner.{Planner}
 use Rattle.planner.specs.declared.Changed.{Changed}
 use Rattle.planner.specs.declared.Rounded.{Rounded}
@@ -88,8 +89,8 @@ round-five {p} {before} is =
     (λ five. one (sym (is .answer) ∙ five), λ bad. is .answer ∙ other bad)
 
 -- and open never answers 5
-pub open-never-five : {s : Setting} {r : Changed} → IsOpened s r → r .answer ≡ 5 → ⊥
+pub open-never-five : {s : Setting} {t : ℕ} {r : Changed} → IsOpened s t r → r .answer ≡ 5 → ⊥
 unfolding NoneIs
-open-never-five {s} is five =
-    not-the-answer 5 (λ e. omega (arith, e)) (open-refusals s)
+open-never-five {s} {t} is five =
+    not-the-answer 5 (λ e. omega (arith, e)) (open-refusals s t)
     (λ e. omega (arith, e), (λ e. omega (arith, e), (λ e. omega (arith, e), (λ e. omega (arith, e), tt)))) (sym (is .answer) ∙ five)

@@ -13,11 +13,12 @@ use Rattle.rules.specs.Facts.LazyStart.{lazy-unique}
 use Rattle.planner.specs.Content.{Content, content, cap-of, slots-of, streams-in}
 use Rattle.planner.specs.Sound.{Sound}
 use Rattle.planner.specs.Decide.{decide-sound}
-use Rattle.planner.specs.Open.{Setting, open-refusals, IsOpened}
+use Rattle.planner.specs.Open.{open-refusals, IsOpened}
 use Rattle.planner.specs.AddRemove.{Offer, unsound, offer-refusals, rule-refusals, added, removed, not-held, IsSoundWith, IsChange}
 use Rattle.planner.specs.Round.{ids-at, rounded, short-buffer, late-start, IsRound, IsHeldRound}
 use Rattle.planner.specs.Start.{IsStart, StartsLate}
 use Rattle.planner.specs.Facts.Calls.{refused-change, success-change, refused-round, success-round}
+use Rattle.planner.specs.declared.Setting.{Setting}
 use Rattle.planner.specs.declared.Planner.{Planner}
 use Rattle.planner.specs.declared.Changed.{Changed}
 use Rattle.planner.specs.declared.Rounded.{Rounded}
@@ -49,11 +50,11 @@ twins-answer {p} {q} (both-sound one other same) rs ss alike =
     answer-later (unsound p) rs (λ bad. bad one) ∙ alike one other same ∙ sym (answer-later (unsound q) ss (λ bad. bad other))
 twins-answer {p} {q} (neither-sound one other) rs ss alike = answer-first (unsound p) rs one ∙ sym (answer-first (unsound q) ss other)
 
--- two openings with the same setting hand back the same planner
-pub same-opening : {s : Setting} {r r′ : Changed} → IsOpened s r → IsOpened s r′ → (r .answer ≡ r′ .answer) × (r .planner ≡ r′ .planner)
-same-opening {s} {r} {r′} is is′ = (is .answer ∙ sym (is′ .answer), go (ℕ-discrete (answer-of (open-refusals s)) 0))
+-- two openings with the same setting and T hand back the same planner
+pub same-opening : {s : Setting} {t : ℕ} {r r′ : Changed} → IsOpened s t r → IsOpened s t r′ → (r .answer ≡ r′ .answer) × (r .planner ≡ r′ .planner)
+same-opening {s} {t} {r} {r′} is is′ = (is .answer ∙ sym (is′ .answer), go (ℕ-discrete (answer-of (open-refusals s t)) 0))
   where
-    go : Dec (answer-of (open-refusals s) ≡ 0) → r .planner ≡ r′ .planner
+    go : Dec (answer-of (open-refusals s t) ≡ 0) → r .planner ≡ r′ .planner
     go (yes zero) = is .opened zero .whole ∙ sym (is′ .opened zero .whole)
     go (no some) = is .closed some .whole ∙ sym (is′ .closed some .whole)
 
@@ -162,7 +163,7 @@ remove-rest id h = not-held id h ∷ []
 
 -- one call on twins: the same outcome, and twins are left
 pub same-outcome : {p p′ q q′ : Planner} {c : Call} {o o′ : Outcome} → AreTwins p p′ → Gives p c o q → Gives p′ c o′ q′ → (o ≡ o′) × AreTwins q q′
-same-outcome twins (opens s r is) (opens _ r′ is′) = let same = same-opening is is′ in (ap change (same .0), equal-are-twins (same .1))
+same-outcome twins (opens s t r is) (opens _ _ r′ is′) = let same = same-opening is is′ in (ap change (same .0), equal-are-twins (same .1))
 same-outcome twins (adds o r is) (adds _ r′ is′) =
     let holds : Content → Content = λ h. added h o in
     (ap change (change-answers twins (add-rest o) holds is is′), change-twins twins (add-rest o) holds is is′)

@@ -56,7 +56,7 @@ few-ids {p} {before} {r = r} is zero =
     let ids = is .held none .n in
     let chosen = slots (slots-of (content p)) s (streams-in (content p)) in
     let few : length (ids-at (content p) s) ≤ slots-of (content p) = rw (length-map chosen (λ (x : Stream). x .number), length-take) (omega arith) in
-    omega (arith, ids, few, sound .content-sound .in-range .slots)
+    omega (arith, ids, few, sound .content-sound .in-range .setting .slots)
 
 -- an answer has at most 68 numbers
 pub answered-few : (p : Planner) (number : ℕ) (command : Command) (r : Answered) → IsAnswered p number command r → r .numbers .count ≤ 68

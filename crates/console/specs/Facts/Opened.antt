@@ -63,7 +63,7 @@ module _ (q : Planner) (number : ℕ) (line answer : List ℕ) (r : Answered) (t
         its-text = given-text (is .given)
 
         success : is .done .answer ≡ 0 → Sound (r .planner)
-        success zero = subst⁻¹ Sound (is .given .planner) (open-success-is-sound (setting b f g t) (is .done) (is .by-contract) zero)
+        success zero = subst⁻¹ Sound (is .given .planner) (open-success-is-sound (setting b f g) t (is .done) (is .by-contract) zero)
 
         go : IsLine 79 (0 ∷ []) answer ⊎ (Before × IsNoOpen line) → Sound (r .planner)
         go (inl opened) = success (ap (λ (l : List ℕ). getD l 0 0) (line-numbers its-text opened .1))
@@ -115,7 +115,7 @@ module _ (q : Planner) (number : ℕ) (line answer : List ℕ) (r : Answered) (t
   five-if-unsound Malformed asks is = absurd asks
 
 -- Annex 11.10: from the closed planner on, the planner is sound exactly while it is open
-pub open-is-sound : {p q : Planner} {lines answers : List ℕ} {n : ℕ} → IsFresh zeros p → (t : Transcript p lines answers q n) → IsOpen t ↔ Sound q
+pub open-is-sound : {p q : Planner} {lines answers : List ℕ} {n : ℕ} → IsFresh zeros 0 p → (t : Transcript p lines answers q n) → IsOpen t ↔ Sound q
 unfolding IsOpen
 open-is-sound {p} closed none = (λ never. absurd never, λ sound. closed-is-not-sound p closed sound)
 open-is-sound closed (next {q} {n} t line answer after no-end is) =
@@ -124,7 +124,7 @@ open-is-sound closed (next {q} {n} t line answer after no-end is) =
     (λ open-now. subst⁻¹ Sound (is .planner) (on open-now), λ sound. back (subst Sound (is .planner) sound))
 
 -- Annex 11.10: A, D and R are answered 5 exactly where no O has succeeded since the beginning or since a refused one
-pub five-exactly : {p q after : Planner} {lines answers line answer : List ℕ} {n : ℕ} → IsFresh zeros p → (t : Transcript p lines answers q n)
+pub five-exactly : {p q after : Planner} {lines answers line answer : List ℕ} {n : ℕ} → IsFresh zeros 0 p → (t : Transcript p lines answers q n)
     → (c : Command) → Says line c → AsksForOpen c → IsAnswer q (n + 1) line answer after → IsFive c answer ↔ (IsOpen t → ⊥)
 five-exactly {q = q} {line = line} {answer = answer} {n = n} closed t c says asks is =
     let same = says-one line (is .command) c (is .says) says in
@@ -134,7 +134,7 @@ five-exactly {q = q} {line = line} {answer = answer} {n = n} closed t c says ask
     (λ five is-open. on five (sound is-open), λ not-open. back (λ is-sound. not-open (open-now is-sound)))
 
 -- Annex 11.10: so between an O that succeeds and the next O, which may itself be refused, no line is answered 5
-pub no-five-while-open : {p q after : Planner} {lines answers line answer : List ℕ} {n : ℕ} → IsFresh zeros p → (t : Transcript p lines answers q n)
+pub no-five-while-open : {p q after : Planner} {lines answers line answer : List ℕ} {n : ℕ} → IsFresh zeros 0 p → (t : Transcript p lines answers q n)
     → IsOpen t → (c : Command) → Says line c → IsAnswer q (n + 1) line answer after → IsFive c answer → ⊥
 no-five-while-open {q = q} {line = line} {answer = answer} {n = n} closed t is-open (Open b f g last) says is five =
     let same = says-one line (is .command) (Open b f g last) (is .says) says in

@@ -20,7 +20,7 @@ use Rattle.console.specs.Facts.Transcript.{step-answer, run-told, none-l
 use Rattle.console.specs.Facts.SameTranscripts.{same-output}
 
 -- at the beginning nothing is told
-begun : (script : List ℕ) (p : Planner) (n from : ℕ) → IsFresh zeros p → n ≡ 0 → from ≡ 0 → Told script [] p n (drop from script)
+begun : (script : List ℕ) (p : Planner) (n from : ℕ) → IsFresh zeros 0 p → n ≡ 0 → from ≡ 0 → Told script [] p n (drop from script)
 begun script p n from closed no-line at-first =
     subst⁻¹ (λ (k : ℕ). Told script [] p k (drop from script)) no-line
     (subst⁻¹ (λ (k : ℕ). Told script [] p 0 (drop k script)) at-first

@@ -6,7 +6,7 @@ use Rattle.rules.specs.Runs.{State, IsLazyRun, run-plan}
 use Rattle.rules.specs.Ready.{IsReadyState}
 use Rattle.rules.specs.Facts.LazyRun.{lazy-starts, lazy-run-exists}
 use Rattle.rules.specs.Facts.LazyServes.{lazy-is-plan, lazy-serves, lazy-keeps-gap}
-use Rattle.planner.specs.Content.{Content, content, now-of, cap-of, slots-of, start-gap-of, streams-in}
+use Rattle.planner.specs.Content.{Content, content, now-of, cap-of, slots-of, frame-of, start-gap-of, streams-in}
 use Rattle.planner.specs.Sound.{ContentSound, Sound}
 use Rattle.planner.specs.Facts.Sound.{content-ready, frame-is-busy}
 use Rattle.planner.specs.declared.Planner.{Planner}
@@ -18,7 +18,7 @@ state-of h = record { now = now-of h; cap = cap-of h; table = streams-in h }
 
 -- The starts of the lazy rounds of what a planner holds, for ever; they are found up to its superframe ..
 abbrev pub own-starts : Content → ℕ → ℕ
-own-starts h = lazy-starts (slots-of h) (start-gap-of h) (h .frame) (state-of h)
+own-starts h = lazy-starts (slots-of h) (start-gap-of h) (frame-of h) (state-of h)
 
 -- .. and those rounds as a plan.
 abbrev pub own-rounds : Content → ℕ → Round
@@ -30,12 +30,12 @@ module _ (h : Content) (sound : ContentSound h) where
 
   -- its own rounds are lazy
   pub own-lazy : IsLazyRun (slots-of h) (start-gap-of h) (state-of h) (own-starts h)
-  own-lazy = lazy-run-exists (slots-of h) (start-gap-of h) (h .frame) (sound .in-range .slots .0) (omega arith) (state-of h) ready (frame-is-busy h sound)
+  own-lazy = lazy-run-exists (slots-of h) (start-gap-of h) (frame-of h) (sound .in-range .setting .slots .0) (omega arith) (state-of h) ready (frame-is-busy h sound)
 
   -- a sound planner's own rounds are a rival ..
   pub own-is-rival : IsRivalOf h (own-rounds h)
   own-is-rival =
-      let positive = sound .in-range .slots .0 in
+      let positive = sound .in-range .setting .slots .0 in
       record {
         is-plan = lazy-is-plan (slots-of h) (start-gap-of h) positive (omega arith) (state-of h) ready (own-starts h) own-lazy;
         serves = lazy-serves (slots-of h) (start-gap-of h) positive (omega arith) (state-of h) ready (own-starts h) own-lazy;

@@ -86,7 +86,7 @@ module _ (h : Content) (rounds : List HeldRound) (sound : ContentSound (after-ro
 
   is-choice : IsChoice (slots-of h) s (streams-in so-far) chosen
   is-choice =
-      round-choice (slots-of h) (now-of so-far) (streams-in so-far) (content-ready so-far sound) (sound .in-range .slots .0) (cap-of so-far)
+      round-choice (slots-of h) (now-of so-far) (streams-in so-far) (content-ready so-far sound) (sound .in-range .setting .slots .0) (cap-of so-far)
       s s start (omega arith)
 
   ids-differ : List·Nodup (ids-at so-far s)

@@ -47,5 +47,5 @@ module _ (h : Content) (rounds : List HeldRound) (c : Content) (follows : Follow
       let ready : IsReadyState (slots-of h) (state-of h) = record { ready = content-ready h sound; open-cap = omega arith } in
       let (many, same) = same-starts (follows .played) rounds (follows .starts) in
       subst (λ (x : ℕ). plan k .start ≤ x) (same k)
-      (held-fewest (slots-of h) (start-gap-of h) (sound .in-range .slots .0) (omega arith) (state-of h) ready plan rival (follows .lazy) k
+      (held-fewest (slots-of h) (start-gap-of h) (sound .in-range .setting .slots .0) (omega arith) (state-of h) ready plan rival (follows .lazy) k
       (subst⁻¹ (λ (n : ℕ). k < n) many below))

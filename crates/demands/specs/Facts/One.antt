@@ -2,11 +2,12 @@
 use mathlib.Core.Path.{_≡_, sym, _∙_}
 use mathlib.Core.List.{List}
 use Prim.Native.Nat.{ℕ}
-use Rattle.planner.specs.Open.{Setting, zeros, opened, IsFresh, IsOpened}
+use Rattle.planner.specs.Open.{zeros, opened, IsFresh, IsOpened}
 use Rattle.planner.specs.AddRemove.{Offer, IsAdd, IsRemove}
 use Rattle.planner.specs.Round.{IsRound}
 use Rattle.planner.specs.Facts.Open.{open-success-is-sound, closed-is-not-sound}
 use Rattle.planner.specs.Facts.Calls.{answers-first, refused-change, change-keeps-sound, refused-round, round-keeps-sound}
+use Rattle.planner.specs.declared.Setting.{Setting}
 use Rattle.planner.specs.declared.Planner.{Planner}
 use Rattle.planner.specs.declared.Changed.{Changed}
 use Rattle.planner.specs.declared.Rounded.{Rounded}
@@ -14,12 +15,12 @@ use Rattle.demands.specs.One.{OpenMeets, AddMeets, RemoveMeets, RoundMee
 use Rattle.demands.specs.Facts.OtherCalls.{other-calls-meet}
 
 -- open, of what it hands back
-open-meets-it : (s : Setting) (r : Changed) → IsOpened s r → OpenMeets s r
-open-meets-it s r is =
-    let refused : (r .answer ≡ 0 → ⊥) → IsFresh zeros (r .planner) = λ nonzero. is .closed (λ zero. nonzero (is .answer ∙ zero)) in
+open-meets-it : (s : Setting) (t : ℕ) (r : Changed) → IsOpened s t r → OpenMeets s t r
+open-meets-it s t r is =
+    let refused : (r .answer ≡ 0 → ⊥) → IsFresh zeros 0 (r .planner) = λ nonzero. is .closed (λ zero. nonzero (is .answer ∙ zero)) in
     record {
       answer = answers-first (is .answer);
-      sound = open-success-is-sound s r is;
+      sound = open-success-is-sound s t r is;
       opened = λ zero. is .opened (sym (is .answer) ∙ zero) .holds;
       closed = refused;
       not-sound = λ nonzero. closed-is-not-sound (r .planner) (refused nonzero);
@@ -43,7 +44,7 @@ demand-1 =
       add-meets = add-meets-it;
       remove-meets = remove-meets-it;
       round-meets = round-meets-it;
-      lent-open-meets = λ s after r is. open-meets-it s (record { answer = r; planner = after }) is;
+      lent-open-meets = λ s t after r is. open-meets-it s t (record { answer = r; planner = after }) is;
       lent-add-meets = λ before o after r is. add-meets-it before o (record { answer = r; planner = after }) is;
       lent-remove-meets = λ before id after r is. remove-meets-it before id (record { answer = r; planner = after }) is;
       lent-round-meets = λ before buffer written after r is.

@@ -39,7 +39,7 @@ module _ (p : Planner) (sound : Sound p) (before after : List ℕ) (r : Rounded)
   is-choice : IsChoice (slots-of (content p)) (r .start) (streams-in (content p)) chosen
   is-choice =
       let h = content p in
-      round-choice (slots-of h) (now-of h) (streams-in h) (content-ready h (sound .content-sound)) (sound .content-sound .in-range .slots .0) (cap-of h)
+      round-choice (slots-of h) (now-of h) (streams-in h) (content-ready h (sound .content-sound)) (sound .content-sound .in-range .setting .slots .0) (cap-of h)
       (r .start) (r .start) (held .start) (omega arith)
 
   not-late : r .start ≤ 1_000_000_000
@@ -75,7 +75,7 @@ module _ (p : Planner) (sound : Sound p) (before after : List ℕ) (r : Rounded)
   is-good =
       record {
         start = not-late;
-        slots = sound .content-sound .in-range .slots;
+        slots = sound .content-sound .in-range .setting .slots;
         count = omega (arith, same-n, held .n, length-map chosen (λ (x : Stream). x .number), is-choice .few);
         ids = subst⁻¹ IdsGood written-ids ids-good;
       }
@@ -86,7 +86,7 @@ module _ (p : Planner) (sound : Sound p) (before after : List ℕ) (r : Rounded)
       record {
         good = is-good;
         n = same-n;
-        slots = ap (λ (h : Content). h .slots) (held .planner .holds);
+        slots = ap (λ (h : Content). h .setting .slots) (held .planner .holds);
         written = λ packet left answer wrote. written packet (wrote .answers);
         short = λ packet left answer wrote. short packet (wrote .answers);
         never-27 = λ packet left answer wrote e. go packet (wrote .answers) e (decLt (length packet) (6 + 2 * r .n));

@@ -69,18 +69,18 @@ tested-lines (round-refused answer ∷ lines) p sound tested =
 -- a test of a case
 unfoldable case-test : Case → Bool
 unfolding open-test lines-test superframe-test
-case-test (planner-case s lines) = open-test s && lines-test (opened s) lines
+case-test (planner-case s t lines) = open-test s t && lines-test (opened s t) lines
 case-test (superframe-case periods answer value) = superframe-test periods answer value
 
 tested-case : (c : Case) → So (case-test c) → Holds c
 unfolding case-test Holds
-tested-case (planner-case s lines) tested =
-    let split : So (open-test s) × So (lines-test (opened s) lines) = both tested in
-    let none = open-succeeds s (split .0) in
+tested-case (planner-case s t lines) tested =
+    let split : So (open-test s t) × So (lines-test (opened s t) lines) = both tested in
+    let none = open-succeeds s t (split .0) in
     λ r is.
     let zero = is .answer ∙ none in (
       zero,
-      tested-lines lines (r .planner) (open-success-is-sound s r is zero)
+      tested-lines lines (r .planner) (open-success-is-sound s t r is zero)
           (subst⁻¹ (λ (h : Content). So (lines-test h lines)) (is .opened none .holds) (split .1)),
     )
 tested-case (superframe-case periods answer value) tested = λ r is. is ∙ ap packed (tested-superframe periods answer value tested)

@@ -16,14 +16,15 @@ use Rattle.rules.specs.Slots.{riders, goes-before, put-in-order, in-order, slot
 use Rattle.rules.specs.Facts.LazyStart.{least-of, latest, lazy-start, lazy-start-is-lazy, lazy-unique, first-due, first-due-is-first}
 use Rattle.rules.specs.Facts.Tests.{both, all-below, is-table, is-busy, keeps-demand, keeps-start, is-ready, tested-demand, tested-ready}
 use Rattle.table.specs.Changes.{put-by-id}
-use Rattle.planner.specs.Content.{Content, content, now-of, cap-of, slots-of, streams-in}
+use Rattle.planner.specs.Content.{Content, content, now-of, cap-of, slots-of, frame-of, streams-in}
 use Rattle.planner.specs.Sound.{ContentSound, Sound}
 use Rattle.planner.specs.Facts.Sound.{all-formed, fits-now, frame-is-busy}
-use Rattle.planner.specs.Open.{Setting, open-refusals}
+use Rattle.planner.specs.Open.{open-refusals}
 use Rattle.planner.specs.AddRemove.{Offer, added, unsound, offer-refusals, breaks-demand, breaks-start, not-held, IsChange, IsAdd, IsRemove}
 use Rattle.planner.specs.Round.{ids-at, rounded, IsRound}
 use Rattle.planner.specs.Start.{IsStart}
 use Rattle.planner.specs.Facts.Calls.{refused-change, success-change, refused-round, success-round, held-exactly, seventeen-exactly}
+use Rattle.planner.specs.declared.Setting.{Setting}
 use Rattle.planner.specs.declared.Planner.{Planner}
 use Rattle.planner.specs.declared.Changed.{Changed}
 use Rattle.planner.specs.declared.Rounded.{Rounded}
@@ -46,14 +47,14 @@ tested-pass (r ∷ rs) tested =
     (λ applies. true≢false (sym (decide-iff (r .decided) .1 applies) ∙ not-true (decide (r .decided)) (split .0)), tested-pass rs (split .1))
 
 -- the numbers passed to open are in range
-unfoldable pub open-test : Setting → Bool
+unfoldable pub open-test : Setting → ℕ → Bool
 unfolding passes decLe decLt Dec·and Dec·not
-open-test s = passes (open-refusals s)
+open-test s t = passes (open-refusals s t)
 
 -- numbers that pass the test are answered 0 by open
-pub open-succeeds : (s : Setting) → So (open-test s) → answer-of (open-refusals s) ≡ 0
+pub open-succeeds : (s : Setting) (t : ℕ) → So (open-test s t) → answer-of (open-refusals s t) ≡ 0
 unfolding open-test answer-of
-open-succeeds s tested = answer-after (open-refusals s) [] (tested-pass (open-refusals s) tested)
+open-succeeds s t tested = answer-after (open-refusals s t) [] (tested-pass (open-refusals s t) tested)
 
 all-pass-below : (f : ℕ → Bool) (n : ℕ) → ((k : ℕ) → So (f k)) → So (all-below f n)
 unfolding all-below
@@ -63,55 +64,55 @@ all-pass-below f (suc n) each = and-eq-true-iff (f n) (all-below f n) .1 (each n
 -- a table of which one frame of lengths tells whether it keeps the two rules
 unfoldable pub is-askable : Content → Bool
 unfolding is-table is-busy first-due
-is-askable h = is-table (streams-in h) && (is-busy (slots-of h) (streams-in h) (h .frame) && ltb (now-of h) (first-due (streams-in h)))
+is-askable h = is-table (streams-in h) && (is-busy (slots-of h) (streams-in h) (frame-of h) && ltb (now-of h) (first-due (streams-in h)))
 
 -- what the two rules answer to it
 unfoldable pub rules-answer : Content → ℕ
 unfolding keeps-demand keeps-start
-rules-answer h = cond (keeps-demand (slots-of h) (streams-in h) (h .frame)) (cond (keeps-start (slots-of h) (now-of h) (streams-in h) (h .frame)) 0 13) 12
+rules-answer h = cond (keeps-demand (slots-of h) (streams-in h) (frame-of h)) (cond (keeps-start (slots-of h) (now-of h) (streams-in h) (frame-of h)) 0 13) 12
 
 module _ (h : Content) where
-  demand-is-kept : DemandRule (slots-of h) (streams-in h) → So (keeps-demand (slots-of h) (streams-in h) (h .frame))
+  demand-is-kept : DemandRule (slots-of h) (streams-in h) → So (keeps-demand (slots-of h) (streams-in h) (frame-of h))
   unfolding keeps-demand
   demand-is-kept rule =
-      all-pass-below (λ t. leb (demand (streams-in h) (t + 1)) (slots-of h * (t + 1))) (h .frame)
+      all-pass-below (λ t. leb (demand (streams-in h) (t + 1)) (slots-of h * (t + 1))) (frame-of h)
       (λ k. le-leb (demand (streams-in h) (k + 1)) (slots-of h * (k + 1)) (rule (k + 1) (omega arith)))
 
   start-is-kept : So (ltb (now-of h) (first-due (streams-in h))) → StartRule (slots-of h) (now-of h) (streams-in h)
-      → So (keeps-start (slots-of h) (now-of h) (streams-in h) (h .frame))
+      → So (keeps-start (slots-of h) (now-of h) (streams-in h) (frame-of h))
   unfolding keeps-start
   start-is-kept after rule =
       let first = first-due (streams-in h) in
       let later = ltb-true (now-of h) first after in
       let fits : ℕ → Bool = λ t. leb (future (streams-in h) (first + t)) (slots-of h * (first + t - now-of h)) in
-      and-eq-true-iff (ltb (now-of h) first) (all-below fits (h .frame)) .1 (
+      and-eq-true-iff (ltb (now-of h) first) (all-below fits (frame-of h)) .1 (
         after,
-        all-pass-below fits (h .frame)
+        all-pass-below fits (frame-of h)
             (λ k. le-leb (future (streams-in h) (first + k)) (slots-of h * (first + k - now-of h)) (rule (first + k) (omega (arith, later)))),
       )
 
   rules-answered : So (is-askable h) → answer-of (breaks-demand h ∷ breaks-start h ∷ []) ≡ rules-answer h
   unfolding is-askable rules-answer answer-of is-ready
-  rules-answered tested = go (keeps-demand (slots-of h) (streams-in h) (h .frame)) (keeps-start (slots-of h) (now-of h) (streams-in h) (h .frame)) refl refl
+  rules-answered tested = go (keeps-demand (slots-of h) (streams-in h) (frame-of h)) (keeps-start (slots-of h) (now-of h) (streams-in h) (frame-of h)) refl refl
     where
-      formed : So (is-table (streams-in h)) × So (is-busy (slots-of h) (streams-in h) (h .frame) && ltb (now-of h) (first-due (streams-in h)))
+      formed : So (is-table (streams-in h)) × So (is-busy (slots-of h) (streams-in h) (frame-of h) && ltb (now-of h) (first-due (streams-in h)))
       formed = both tested
 
-      busy : So (is-busy (slots-of h) (streams-in h) (h .frame)) × So (ltb (now-of h) (first-due (streams-in h)))
+      busy : So (is-busy (slots-of h) (streams-in h) (frame-of h)) × So (ltb (now-of h) (first-due (streams-in h)))
       busy = both (formed .1)
 
       go : (demand-kept start-kept : Bool)
-          → keeps-demand (slots-of h) (streams-in h) (h .frame) ≡ demand-kept
-          → keeps-start (slots-of h) (now-of h) (streams-in h) (h .frame) ≡ start-kept
+          → keeps-demand (slots-of h) (streams-in h) (frame-of h) ≡ demand-kept
+          → keeps-start (slots-of h) (now-of h) (streams-in h) (frame-of h) ≡ start-kept
           → answer-of (breaks-demand h ∷ breaks-start h ∷ []) ≡ cond demand-kept (cond start-kept 0 13) 12
       go false start-kept breaks later =
           answer-first (breaks-demand h) (breaks-start h ∷ []) (λ rule. true≢false (sym (demand-is-kept rule) ∙ breaks))
       go true false keeps breaks =
-          let rule = tested-demand (slots-of h) (h .frame) (streams-in h) (formed .0) (busy .0) keeps in
+          let rule = tested-demand (slots-of h) (frame-of h) (streams-in h) (formed .0) (busy .0) keeps in
           answer-later (breaks-demand h) (breaks-start h ∷ []) (λ fails. fails rule)
           ∙ answer-first (breaks-start h) [] (λ rule. true≢false (sym (start-is-kept (busy .1) rule) ∙ breaks))
       go true true keeps keeps-too =
-          let ready = tested-ready (slots-of h) (now-of h) (h .frame) (streams-in h) (all-so (formed .0) (all-so (busy .0) (all-so keeps keeps-too))) in
+          let ready = tested-ready (slots-of h) (now-of h) (frame-of h) (streams-in h) (all-so (formed .0) (all-so (busy .0) (all-so keeps keeps-too))) in
           answer-later (breaks-demand h) (breaks-start h ∷ []) (λ fails. fails (ready .demand-rule))
           ∙ answer-later (breaks-start h) [] (λ fails. fails (ready .start-rule))
 
@@ -163,12 +164,12 @@ change-leaves {refusals} {p} {changed} {r} is answer answered = go (eqb answer 0
 -- the start, looked for in one frame of lengths
 unfoldable pub start-in : Content → ℕ
 unfolding lazy-start least-of latest first-due future packets-by decLe decLt
-start-in h = lazy-start (slots-of h) (cap-of h) (streams-in h) (first-due (streams-in h)) (h .frame)
+start-in h = lazy-start (slots-of h) (cap-of h) (streams-in h) (first-due (streams-in h)) (frame-of h)
 
 start-in-is-start : (h : Content) → ContentSound h → IsStart h (start-in h)
 unfolding start-in
 start-in-is-start h sound =
-    lazy-start-is-lazy (slots-of h) (cap-of h) (streams-in h) (now-of h) (fits-now h sound) (sound .in-range .slots .0) (h .frame) (first-due (streams-in h))
+    lazy-start-is-lazy (slots-of h) (cap-of h) (streams-in h) (now-of h) (fits-now h sound) (sound .in-range .setting .slots .0) (frame-of h) (first-due (streams-in h))
     (all-formed h sound) (frame-is-busy h sound) (first-due-is-first (streams-in h) (all-formed h sound))
 
 -- the same ids in the same order
@@ -197,7 +198,7 @@ unfoldable pub late-test : Content → Bool
 unfolding start-in
 late-test h = ltb 1_000_000_000 (start-in h)
 
-module _ (p : Planner) (sound : Sound p) (before after : List ℕ) (r : Rounded) (long : p .slots ≤ length before) (is : IsRound p before after r) where
+module _ (p : Planner) (sound : Sound p) (before after : List ℕ) (r : Rounded) (long : p .setting .slots ≤ length before) (is : IsRound p before after r) where
   -- where the test is passed, a round on a sound planner is held at s with these n ids, and the planner then holds what a round at s leaves
   pub round-held : (s n : ℕ) (ids : List ℕ) → So (held-test (content p) s n ids)
       → ((r .answer ≡ 0) × (r .start ≡ s) × (r .n ≡ n) × (take (r .n) after ≡ ids)) × (content (r .planner) ≡ rounded (content p) s)

@@ -30,7 +30,7 @@ demand-3 p sound rounds q calls =
       by-the-clock = λ ended s there m early.
           let (start, lazy) = sound-start q sound-after in
           let late = clock-stays calls ended sound-after start lazy in
-          let positive = sound-after .content-sound .in-range .slots .0 in
+          let positive = sound-after .content-sound .in-range .setting .slots .0 in
           let left = content q in
           sent start (lazy-fits (slots-of left) (cap-of left) (streams-in left) positive start lazy) s there m (omega (arith, early, late));
       fewest = rival-never-later (content p) rounds (content q) follows (sound .content-sound);

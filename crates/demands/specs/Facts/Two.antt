@@ -45,7 +45,7 @@ held-writes-slots p sound before after r held =
       ids = ids-written p before after r held ∙ sym (map-map (λ (q : Packet). q .number) (λ (x : Stream). packet x 0) chosen);
     }
 
-module _ (p : Planner) (sound : Sound p) (before after : List ℕ) (long : content p .slots ≤ length before) (r : Rounded) (is : IsRound p before after r) where
+module _ (p : Planner) (sound : Sound p) (before after : List ℕ) (long : content p .setting .slots ≤ length before) (r : Rounded) (is : IsRound p before after r) where
   held-if : (s : ℕ) → IsStart (content p) s → (r .answer ≡ 0) ↔ (s ≤ 1_000_000_000)
   held-if s start = subst⁻¹ (λ (n : ℕ). (n ≡ 0) ↔ (s ≤ 1_000_000_000)) (is .answer) (held-exactly p before sound long s start)
 
@@ -120,7 +120,7 @@ module _ (p : Planner) (sound : Sound p) (o : Offer) (formed : IsWellFormed (con
   exact-add r is = go (decide-demand-rule (slots-of with-it) (streams-in with-it)) (decide-start-rule (slots-of with-it) (now-of with-it) (streams-in with-it))
     where
       positive : 1 ≤ slots-of with-it
-      positive = sound .content-sound .in-range .slots .0
+      positive = sound .content-sound .in-range .setting .slots .0
 
       answers : (n : ℕ) → answer-of (breaks-demand with-it ∷ breaks-start with-it ∷ []) ≡ n → r .answer ≡ n
       answers n e = is .answer ∙ only-rules-left ∙ e

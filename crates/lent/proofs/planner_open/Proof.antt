@@ -87,7 +87,7 @@ module _ {M : Type 1} (𝓤 : URA M) (H : Heap 𝓤) (A : Atoms 𝓤) (W : Given
 
   -- what the callee says of its result
   abbrev Says : Changed → Type 0
-  Says = IsOpened (setting slots frame gap last)
+  Says = IsOpened (setting slots frame gap) last
 
   -- the borrow is closed at the planner handed back, and the answer is returned
   exits : (r : Changed) → Says r → r .answer < 2 ^ 32 → ent 𝓤 (⋆ 𝓤 H A (Closed κ q γ b o (r .planner) [])) (Post (vint w32 (r .answer)))

@@ -35,7 +35,7 @@ choosable c =
     can-choose (tested .sound-start .ensures) (now (tested .before .before .args .buffer)) (answered (c .before)) (c .if1 .left)
 
 -- .. and the buffer has room for them
-long : (c : tie.Else1) → let a = c .before .before .before .before .args in a .p .slots ≤ length (now (a .buffer))
+long : (c : tie.Else1) → let a = c .before .before .before .before .args in a .p .setting .slots ≤ length (now (a .buffer))
 long c =
     let tested = c .before .before in
     buffer-long (tested .sound-start .ensures) (now (tested .before .before .args .buffer)) (answered (c .before)) (c .if1 .left)
@@ -47,7 +47,7 @@ write-ids-in-range-requires : tie.Need-write-ids-in-range-requires
 write-ids-in-range-requires c κs =
     let passed = c .before .before .before in
     let few = c .before .before .choose-sound .ensures .0 .few in
-    (omega (arith, few, choosable passed .sound .content-sound .in-range .slots), omega (arith, few, long passed))
+    (omega (arith, few, choosable passed .sound .content-sound .in-range .setting .slots), omega (arith, few, long passed))
 
 serve-sound-requires : tie.Need-serve-sound-requires
 serve-sound-requires c κs =
@@ -60,7 +60,7 @@ serve-sound-requires c κs =
 cast-t13 : tie.Need-cast-t13
 cast-t13 c =
     let chose = c .before .before .before .before .before .before .before in
-    omega (arith, chose .choose-sound .ensures .0 .few, choosable (chose .before) .sound .content-sound .in-range .slots)
+    omega (arith, chose .choose-sound .ensures .0 .few, choosable (chose .before) .sound .content-sound .in-range .setting .slots)
 
 same-length : tie.Need-same-length
 same-length c = search needs

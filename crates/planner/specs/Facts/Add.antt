@@ -23,7 +23,6 @@ use Rattle.queue.specs.declared.Queue.{Queue}
 use Rattle.planner.specs.Content.{Content, content, now-of, slots-of, streams-in}
 use Rattle.planner.specs.Sound.{entry-of, Sound}
 use Rattle.planner.specs.Decide.{decide-sound}
-use Rattle.planner.specs.Open.{setting-of}
 use Rattle.planner.specs.Facts.Open.{NumbersInRange, range-numbers, in-limit}
 use Rattle.planner.specs.AddRemove.{Offer, offered, added, unsound, offer-refusals, rule-refusals, add-refusals, IsWellFormed, IsSoundWith}
 use Rattle.planner.specs.Facts.Files.{can-insert, files-inserted}
@@ -34,7 +33,7 @@ use Rattle.planner.specs.Needs.{stored, CanAdd, CanTest}
 use Rattle.planner.specs.declared.Planner.{Planner}
 
 -- the numbers of a sound planner
-sound-numbers : (p : Planner) → Sound p → NumbersInRange (setting-of (content p))
+sound-numbers : (p : Planner) → Sound p → NumbersInRange (p .setting) (p .last)
 sound-numbers p sound = range-numbers (sound .content-sound .in-range)
 
 module _ {p : Planner} (sound : Sound p) (long : length (p .table .streams) ≡ 64) where
@@ -83,7 +82,7 @@ module _ (h : Content) (o : Offer) where
   passes-offer : AllPass (offer-refusals h o) → IsWellFormed h o
   unfolding AllPass
   passes-offer pass =
-      let period-in = Dec·not-not (Dec·and (Dec·and (decLe 1 (o .period)) (decLe (o .period) 240)) (decDvd (o .period) (h .frame))) .0 (pass .1 .1 .1 .0) in
+      let period-in = Dec·not-not (Dec·and (Dec·and (decLe 1 (o .period)) (decLe (o .period) 240)) (decDvd (o .period) (h .setting .frame))) .0 (pass .1 .1 .1 .0) in
       record {
         id = in-limit 32767 (o .id) (pass .0);
         new = pass .1 .0;
@@ -154,17 +153,17 @@ module _ {p : Planner} {o : Offer} (can : CanTest p o) where
     abbrev offered-table : Planner
     offered-table = stored p (p .last) table (p .queue)
 
-    its-range : TableInRange (p .frame) (p .last + 1) table
+    its-range : TableInRange (p .setting .frame) (p .last + 1) table
     its-range =
         let range = added-in-range (content p) (can .sound .content-sound) o (can .formed) in
         record {
           count = has .count;
-          records = subst⁻¹ (RecordsInRange (p .frame)) (has .records) (range .0 .records);
+          records = subst⁻¹ (RecordsInRange (p .setting .frame)) (has .records) (range .0 .records);
           near = subst⁻¹ (AreNear (p .last + 1)) (has .records) (range .1);
         }
 
     -- both rules can be tested on the table with the stream ..
-    pub can-test-table : CanTestDemand (slots-of (content p)) (p .frame) table
+    pub can-test-table : CanTestDemand (slots-of (content p)) (p .setting .frame) table
     can-test-table = can-test-demand offered-table (sound-numbers p (can .sound)) its-range
 
     -- .. the start rule with now for the cap, once a busy length is found ..

@@ -100,7 +100,7 @@ module _ (p : Planner) (buffer : List ℕ) where
           let last : answer-of [] ≡ 17 = sym (answer-later (late-start p) [] early) ∙ asked-last in
           absurd (omega (arith, last))
 
-  module _ (sound : Sound p) (long : content p .slots ≤ length buffer) (s : ℕ) (start : IsStart (content p) s) where
+  module _ (sound : Sound p) (long : content p .setting .slots ≤ length buffer) (s : ℕ) (start : IsStart (content p) s) where
     -- on a sound planner with a long enough buffer only 17 is left to be asked
     only-17-left : answer-of (round-refusals p buffer) ≡ answer-of (late-start p ∷ [])
     unfolding AllPass
@@ -131,7 +131,7 @@ module _ (h : Content) (empty : h .table ≡ []) where
   pub empty-start : ContentSound h → IsStart h (cap-of h)
   unfolding future
   empty-start sound =
-      let gap = sound .in-range .gap .0 in
+      let gap = sound .in-range .setting .gap .0 in
       nothing-due (slots-of h) (now-of h) (cap-of h) (streams-in h) (omega arith) (omega arith) (λ t. rw empty refl) .lazy (omega arith)
 
   -- .. and the slots with nothing

@@ -130,7 +130,7 @@ module _ {p : Planner} {s : ℕ} (can : CanChoose p s) (long : length (p .table 
 
     -- while B are not chosen yet, fewer than 64 are
     pub still-room : (chosen .n ≡ slots-of (content p) → ⊥) → chosen .n < 64
-    still-room not-full = omega (arith, below (chosen .n) (slots-of (content p)) (visited .room) not-full, sound .content-sound .in-range .slots .1)
+    still-room not-full = omega (arith, below (chosen .n) (slots-of (content p)) (visited .room) not-full, sound .content-sound .in-range .setting .slots .1)
 
     module _ (more : i < p .table .count) {order : Placed} (in-order : IsInOrder (p .queue) (p .table .count) order) where
       abbrev id : ℕ

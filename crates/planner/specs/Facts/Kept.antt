@@ -65,19 +65,19 @@ sent-at-release h s r = go (decMem ℕ-discrete (r .id) (ids-at h s))
     go (no other) = refl
 
 -- what is in range stays so with another table ..
-with-table-in-range : {h : Content} {rs : List Record} → InRange h → length rs ≤ 64 → RecordsInRange (h .frame) rs → InRange (with-table h rs)
+with-table-in-range : {h : Content} {rs : List Record} → InRange h → length rs ≤ 64 → RecordsInRange (h .setting .frame) rs → InRange (with-table h rs)
 with-table-in-range range = in-range-by-numbers (range-numbers range)
 
 -- .. and with another last start
 with-last-in-range : {h : Content} → InRange h → (s : ℕ) → s ≤ 1_000_000_000 → InRange (with-last h s)
 with-last-in-range range s by-last =
-    record { slots = range .slots; frame = range .frame; gap = range .gap; last = by-last; at-most = range .at-most; records = range .records }
+    record { setting = range .setting; last = by-last; at-most = range .at-most; records = range .records }
 
 module _ (h : Content) (sound : ContentSound h) where
   -- Annex 4.8: the start is not before now
   pub start-from-now : (s : ℕ) → IsStart h s → now-of h ≤ s
   start-from-now s lazy =
-      fits-lazy (slots-of h) (cap-of h) (streams-in h) (sound .in-range .slots .0) s lazy (now-of h) (omega (arith, sound .in-range .gap)) (fits-now h sound)
+      fits-lazy (slots-of h) (cap-of h) (streams-in h) (sound .in-range .setting .slots .0) s lazy (now-of h) (omega (arith, sound .in-range .setting .gap)) (fits-now h sound)
 
   module _ (o : Offer) (formed : IsWellFormed h o) where
     -- with a well-formed stream the table is in range and near now ..
@@ -85,7 +85,7 @@ module _ (h : Content) (sound : ContentSound h) where
     added-in-range = (
       with-table-in-range (sound .in-range) (omega (arith, formed .place-free, put-by-id-length x (h .table)))
           (record {
-            each = put-all (RecordInRange (h .frame)) (record-in-range-prop (h .frame)) x (h .table)
+            each = put-all (RecordInRange (h .setting .frame)) (record-in-range-prop (h .setting .frame)) x (h .table)
                 (record { id = formed .id; period = formed .period-range; divides = formed .divides; deadline = formed .deadline-range })
                 (sound .in-range .records .each);
             ascending = put-by-id-ascending x (h .table) (sound .in-range .records .ascending) (formed .new);
@@ -137,9 +137,9 @@ module _ (h : Content) (sound : ContentSound h) where
         in-range =
             with-table-in-range (with-last-in-range (sound .in-range) s by-last) (rw (length-map (h .table) (sent-in (ids-at h s))) (sound .in-range .at-most))
             (record {
-              each = all-map (RecordInRange (h .frame)) (record-in-range-prop (h .frame)) (sent-in (ids-at h s)) (h .table)
+              each = all-map (RecordInRange (h .setting .frame)) (record-in-range-prop (h .setting .frame)) (sent-in (ids-at h s)) (h .table)
                   (λ r m. let range = sound .in-range .records .each r m in
-                  sent-in-elim (ids-at h s) (RecordInRange (h .frame)) r
+                  sent-in-elim (ids-at h s) (RecordInRange (h .setting .frame)) r
                   (λ _. record { id = range .id; period = range .period; divides = range .divides; deadline = range .deadline }) range);
               ascending =
                   Pairwise·map (λ a b. le-prop) (sent-in (ids-at h s)) (λ a b less. rw (sent-in-id (ids-at h s) a, sent-in-id (ids-at h s) b) less)
@@ -148,7 +148,7 @@ module _ (h : Content) (sound : ContentSound h) where
         near = record {
           due-after = λ r m. kept .due-after (stream-of r) (seen r m);
           released = λ r m.
-              round-near (slots-of h) (now-of h) (streams-in h) (content-ready h sound) (sound .in-range .slots .0) (cap-of h) s s lazy (omega arith)
+              round-near (slots-of h) (now-of h) (streams-in h) (content-ready h sound) (sound .in-range .setting .slots .0) (cap-of h) s s lazy (omega arith)
               239 (start-from-now s lazy) near-now (stream-of r) (seen r m);
         };
         demand-rule = subst⁻¹ (DemandRule (slots-of h)) (rounded-streams s) (kept .demand-rule);
@@ -156,7 +156,7 @@ module _ (h : Content) (sound : ContentSound h) where
       }
     where
       kept : IsReady (slots-of h) (s + 1) (after-round (slots-of h) s (streams-in h))
-      kept = round-kept (slots-of h) (now-of h) (streams-in h) (content-ready h sound) (sound .in-range .slots .0) (cap-of h) s s lazy (omega arith)
+      kept = round-kept (slots-of h) (now-of h) (streams-in h) (content-ready h sound) (sound .in-range .setting .slots .0) (cap-of h) s s lazy (omega arith)
 
       seen : (r : Record) → List·Mem r (rounded h s .table) → List·Mem (stream-of r) (after-round (slots-of h) s (streams-in h))
       seen r m = subst (List·Mem (stream-of r)) (rounded-streams s) (mem-map-of-mem stream-of m)

@@ -3,42 +3,40 @@ use mathlib.Core.Path.{_≡_, refl, sym, subst, subst⁻¹, _∙_}
 use mathlib.Core.Logic.{∥∥₁-elim, Dec·and, Dec·not-not}
 use mathlib.Core.List.{List, List·Mem, List·Mem-prop, Pairwise·nil, not-mem-nil}
 use Prim.Native.Nat.{ℕ, _≤_, _<_}
-use native.Mathlib.Nat.{lt-irrefl}
+use native.Mathlib.Nat.{lt-irrefl, lt-of-lt-of-le}
 use native.Mathlib.Decide.{decLe}
 use native.Mathlib.Omega.{arith}
 use lib.ListN.{length}
-use Rattle.basics.specs.Refusals.{answer-of}
-use Rattle.basics.specs.Facts.Refusals.{AllPass, AllNumbered, zero-all-pass}
+use Rattle.basics.specs.Refusals.{answer-of, none, later}
+use Rattle.basics.specs.Facts.Refusals.{AllPass, AllNumbered, zero-all-pass, first-is-answer}
 use Rattle.rules.specs.Demand.{demand, future}
 use Rattle.table.specs.Range.{RecordsInRange}
 use Rattle.queue.specs.Interface.{Entry, empty-queue}
 use Rattle.queue.specs.InterfaceLaws.{empty-has-none}
 use Rattle.queue.specs.declared.Queue.{Queue}
-use Rattle.planner.specs.Content.{Content}
-use Rattle.planner.specs.Sound.{InRange, ContentSound, Sound}
-use Rattle.planner.specs.Open.{Setting, setting-of, zeros, open-refusals, opened, fresh-with, IsFresh, IsOpened}
+use Rattle.planner.specs.Content.{Content, frame-of}
+use Rattle.planner.specs.Sound.{SettingInRange, InRange, ContentSound, Sound}
+use Rattle.planner.specs.Open.{zeros, open-refusals, opened, fresh-with, IsFresh, IsOpened}
 use Rattle.planner.specs.declared.Planner.{Planner}
+use Rattle.planner.specs.declared.Setting.{Setting}
 use Rattle.planner.specs.declared.Changed.{Changed}
 
 -- what is in range where open refuses nothing
-pub record NumbersInRange (s : Setting) : Type 0 where
-  pub slots : (1 ≤ s .slots) × (s .slots ≤ 64)
-  pub frame : (1 ≤ s .frame) × (s .frame ≤ 5040)
-  pub gap : (1 ≤ s .gap) × (s .gap ≤ 255)
-  pub last : s .last ≤ 1_000_000_000
+pub record NumbersInRange (s : Setting) (t : ℕ) : Type 0 where
+  pub setting : SettingInRange s
+  pub last : t ≤ 1_000_000_000
 
 -- the numbers of what is in range
-pub range-numbers : {h : Content} → InRange h → NumbersInRange (setting-of h)
-range-numbers range = record { slots = range .slots; frame = range .frame; gap = range .gap; last = range .last }
+pub range-numbers : {h : Content} → InRange h → NumbersInRange (h .setting) (h .last)
+range-numbers range = record { setting = range .setting; last = range .last }
 
 -- with its numbers and its records in range, what a planner holds is
-pub in-range-by-numbers : {h : Content} → NumbersInRange (setting-of h) → length (h .table) ≤ 64 → RecordsInRange (h .frame) (h .table) → InRange h
-in-range-by-numbers numbers few records =
-    record { slots = numbers .slots; frame = numbers .frame; gap = numbers .gap; last = numbers .last; at-most = few; records = records }
+pub in-range-by-numbers : {h : Content} → NumbersInRange (h .setting) (h .last) → length (h .table) ≤ 64 → RecordsInRange (frame-of h) (h .table) → InRange h
+in-range-by-numbers numbers few records = record { setting = numbers .setting; last = numbers .last; at-most = few; records = records }
 
-opened-sound : (s : Setting) → NumbersInRange s → ContentSound (opened s)
+opened-sound : (s : Setting) (t : ℕ) → NumbersInRange s t → ContentSound (opened s t)
 unfolding demand future
-opened-sound s numbers =
+opened-sound s t numbers =
     record {
       in-range = in-range-by-numbers numbers (omega arith) (record { each = λ s m. absurd (not-mem-nil m); ascending = Pairwise·nil });
       near = record { due-after = λ s m. absurd (not-mem-nil m); released = λ s m. absurd (not-mem-nil m) };
@@ -47,16 +45,16 @@ opened-sound s numbers =
     }
 
 -- the empty queue is all that a planner with these numbers and no stream wants
-pub with-empty-queue : (s : Setting) (q : Queue) → q ≡ empty-queue → IsFresh s (fresh-with s q)
-with-empty-queue s q is = record { whole = rw is; holds = refl }
+pub with-empty-queue : (s : Setting) (t : ℕ) (q : Queue) → q ≡ empty-queue → IsFresh s t (fresh-with s t q)
+with-empty-queue s t q is = record { whole = rw is; holds = refl }
 
 -- a fresh planner with its numbers in range is sound
-fresh-is-sound : (s : Setting) → NumbersInRange s → (p : Planner) → IsFresh s p → Sound p
-fresh-is-sound s numbers p is =
+fresh-is-sound : (s : Setting) (t : ℕ) → NumbersInRange s t → (p : Planner) → IsFresh s t p → Sound p
+fresh-is-sound s t numbers p is =
     subst⁻¹ Sound (is .whole)
     (record {
       count = omega arith;
-      content-sound = opened-sound s numbers;
+      content-sound = opened-sound s t numbers;
       queue-sound = empty-has-none .sound;
       files = λ e. (
         λ m. absurd (not-mem-nil (subst (λ (es : List Entry). List·Mem e es) (empty-has-none .content) m)),
@@ -65,28 +63,40 @@ fresh-is-sound s numbers p is =
     })
 
 -- Annex 3.12: the closed planner is not sound, since its B is 0
-pub closed-is-not-sound : (p : Planner) → IsFresh zeros p → Sound p → ⊥
-closed-is-not-sound p fresh sound = lt-irrefl 0 (subst (λ (h : Content). 1 ≤ h .slots) (fresh .holds) (sound .content-sound .in-range .slots .0))
+pub closed-is-not-sound : (p : Planner) → IsFresh zeros 0 p → Sound p → ⊥
+closed-is-not-sound p fresh sound = lt-irrefl 0 (subst (λ (h : Content). 1 ≤ h .setting .slots) (fresh .holds) (sound .content-sound .in-range .setting .slots .0))
 
 -- a number that `not-in` does not refuse is 1 to the limit
 pub in-limit : (limit n : ℕ) → ((((1 ≤ n) × (n ≤ limit)) → ⊥) → ⊥) → (1 ≤ n) × (n ≤ limit)
 in-limit limit n not-out = Dec·not-not (Dec·and (decLe 1 n) (decLe n limit)) .0 not-out
 
--- numbers that open does not refuse are in range
-pub open-in-range : (s : Setting) → answer-of (open-refusals s) ≡ 0 → NumbersInRange s
-unfolding AllNumbered AllPass
-open-in-range s none =
-    let pass = zero-all-pass (open-refusals s) (omega arith, (omega arith, (omega arith, (omega arith, tt)))) none in
-    record {
-      slots = in-limit 64 (s .slots) (pass .0);
-      frame = in-limit 5040 (s .frame) (pass .1 .0);
-      gap = in-limit 255 (s .gap) (pass .1 .1 .0);
-      last = not-late (s .last) (pass .1 .1 .1 .0);
-    }
-  where
-    not-late : (n : ℕ) → (1_000_000_000 < n → ⊥) → n ≤ 1_000_000_000
-    not-late n early = omega arith
+module _ {s : Setting} {t : ℕ} where
+  -- open refuses no numbers in range ..
+  pub open-passes : NumbersInRange s t → 0 ≡ answer-of (open-refusals s t)
+  open-passes numbers =
+      let set = numbers .setting in
+      first-is-answer
+      (later (λ bad. bad (set .slots)) (later (λ bad. bad (set .frame)) (later (λ bad. bad (set .gap))
+      (later (λ high. lt-irrefl 1_000_000_000 (lt-of-lt-of-le high (numbers .last))) none))))
+
+  -- .. and those that it does not refuse are
+  pub open-in-range : answer-of (open-refusals s t) ≡ 0 → NumbersInRange s t
+  unfolding AllNumbered AllPass
+  open-in-range zero =
+      let pass = zero-all-pass (open-refusals s t) (omega arith, (omega arith, (omega arith, (omega arith, tt)))) zero in
+      record {
+        setting =
+            record {
+              slots = in-limit 64 (s .slots) (pass .0);
+              frame = in-limit 5040 (s .frame) (pass .1 .0);
+              gap = in-limit 255 (s .gap) (pass .1 .1 .0);
+            };
+        last = not-late t (pass .1 .1 .1 .0);
+      }
+    where
+      not-late : (n : ℕ) → (1_000_000_000 < n → ⊥) → n ≤ 1_000_000_000
+      not-late n early = omega arith
 
 -- Annex 7.9: the planner that a successful open hands back is sound
-pub open-success-is-sound : (s : Setting) (r : Changed) → IsOpened s r → r .answer ≡ 0 → Sound (r .planner)
-open-success-is-sound s r is zero = let none = sym (is .answer) ∙ zero in fresh-is-sound s (open-in-range s none) (r .planner) (is .opened none)
+pub open-success-is-sound : (s : Setting) (t : ℕ) (r : Changed) → IsOpened s t r → r .answer ≡ 0 → Sound (r .planner)
+open-success-is-sound s t r is zero = let none = sym (is .answer) ∙ zero in fresh-is-sound s t (open-in-range none) (r .planner) (is .opened none)

@@ -30,11 +30,11 @@ module _ {p : Planner} {start : ℕ} (test : IsSoundStart p start) where
 
     module _ (buffer : List ℕ) where
       -- where it gives a start, and the buffer has fewer than B places, round answers 16
-      pub too-short : length buffer < p .slots → 16 ≡ answer-of (round-refusals p buffer)
+      pub too-short : length buffer < p .setting .slots → 16 ≡ answer-of (round-refusals p buffer)
       too-short short = first-is-answer (later passes-5 (here short))
 
-      module _ (long : p .slots ≤ length buffer) where
-        not-short : length buffer < p .slots → ⊥
+      module _ (long : p .setting .slots ≤ length buffer) where
+        not-short : length buffer < p .setting .slots → ⊥
         not-short short = lt-irrefl (length buffer) (omega (arith, short, long))
 
         -- with B places or more, and a start after 1,000,000,000, it answers 17 ..
@@ -60,7 +60,7 @@ module _ {p : Planner} {start : ℕ} (test : IsSoundStart p start) where
       after-5 : (((Sound p → ⊥) → ⊥) × (answer-of (short-buffer (content p) buffer ∷ late-start p ∷ []) ≡ 0))
       after-5 = answer-zero (unsound p) (short-buffer (content p) buffer ∷ late-start p ∷ []) (λ e. lt-irrefl 0 (omega (arith, e))) (sym is ∙ passed)
 
-      after-16 : (length buffer < p .slots → ⊥) × (answer-of (late-start p ∷ []) ≡ 0)
+      after-16 : (length buffer < p .setting .slots → ⊥) × (answer-of (late-start p ∷ []) ≡ 0)
       after-16 = answer-zero (short-buffer (content p) buffer) (late-start p ∷ []) (λ e. lt-irrefl 0 (omega (arith, e))) (after-5 .1)
 
       is-sound : Sound p
@@ -80,8 +80,8 @@ module _ {p : Planner} {start : ℕ} (test : IsSoundStart p start) where
       early = above 1_000_000_000 start (λ late. held-is-not-late p buffer (sym is ∙ passed) (starts-late-iff p is-sound start (test .start found) .1 late))
 
       -- where the answer is 0 the buffer has B places or more
-      pub buffer-long : p .slots ≤ length buffer
-      buffer-long = above (length buffer) (p .slots) (after-16 .0)
+      pub buffer-long : p .setting .slots ≤ length buffer
+      buffer-long = above (length buffer) (p .setting .slots) (after-16 .0)
 
       module _ {chosen : Chosen} (is-chosen : IsChosen (content p) start chosen × AreFound (p .table) (p .queue) chosen) where
         -- where the answer is 0 the slots that were chosen can be served: the start is not late either

@@ -104,12 +104,12 @@ module _ (h : Content) (sound : ContentSound h) (s : ℕ) (lazy : IsStart h s) w
   table = content-ready h sound .table
 
   choice : IsChoice (slots-of h) s (streams-in h) (slots (slots-of h) s (streams-in h))
-  choice = round-choice (slots-of h) (now-of h) (streams-in h) (content-ready h sound) (sound .in-range .slots .0) (cap-of h) s s lazy (omega arith)
+  choice = round-choice (slots-of h) (now-of h) (streams-in h) (content-ready h sound) (sound .in-range .setting .slots .0) (cap-of h) s s lazy (omega arith)
 
   -- every unserved packet is due after the lazy start
   pub due-after-start : DueAfter s (streams-in h)
   due-after-start =
-      fits-due-after (slots-of h) s (streams-in h) (all-formed h sound) (lazy-fits (slots-of h) (cap-of h) (streams-in h) (sound .in-range .slots .0) s lazy)
+      fits-due-after (slots-of h) s (streams-in h) (all-formed h sound) (lazy-fits (slots-of h) (cap-of h) (streams-in h) (sound .in-range .setting .slots .0) s lazy)
 
   -- served one after the other, the records are those sent at once ..
   first-served : (k : ℕ) → served-to k ≡ map (sent-in (take k (ids-at h s))) (h .table)

@@ -72,7 +72,7 @@ module _ {p : Planner} {s : ℕ} {chosen : Chosen} (can : CanServeAll p s chosen
 
   -- at most 64 ids are chosen
   pub chosen-below : chosen .n ≤ 64
-  chosen-below = omega (arith, can .is-chosen .few, sound .in-range .slots)
+  chosen-below = omega (arith, can .is-chosen .few, sound .in-range .setting .slots)
 
   -- the id at place k is that of slot k
   turn : (k : ℕ) → k < chosen .n → getD (chosen .ids) k 0 ≡ getD (ids-at h s) k 0

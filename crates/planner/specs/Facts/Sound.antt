@@ -36,16 +36,16 @@ module _ (h : Content) (sound : ContentSound h) where
   content-ready = record { table = content-table; demand-rule = sound .demand-rule; start-rule = sound .start-rule; due-after = due-after-now }
 
   -- Annex 4.12: the frame is a busy length
-  pub frame-is-busy : IsBusy (slots-of h) (streams-in h) (h .frame)
+  pub frame-is-busy : IsBusy (slots-of h) (streams-in h) (h .setting .frame)
   frame-is-busy =
-      frame-busy-under-rule (h .frame) (sound .in-range .frame .0) (slots-of h) (streams-in h) all-formed
-      (all-streams (λ (s : Stream). s .period ∣ h .frame) (λ s. ∣-prop (s .period) (h .frame)) (h .table) (λ r m. sound .in-range .records .each r m .divides))
+      frame-busy-under-rule (h .setting .frame) (sound .in-range .setting .frame .0) (slots-of h) (streams-in h) all-formed
+      (all-streams (λ (s : Stream). s .period ∣ h .setting .frame) (λ s. ∣-prop (s .period) (h .setting .frame)) (h .table) (λ r m. sound .in-range .records .each r m .divides))
       (sound .demand-rule)
 
   -- what a sound planner holds has a start
   content-start : (s : ℕ) × IsLazyStart (slots-of h) (cap-of h) (streams-in h) s
   content-start =
-      lazy-exists (slots-of h) (cap-of h) (h .frame) (now-of h) (streams-in h) (sound .in-range .slots .0) all-formed frame-is-busy fits-now
+      lazy-exists (slots-of h) (cap-of h) (h .setting .frame) (now-of h) (streams-in h) (sound .in-range .setting .slots .0) all-formed frame-is-busy fits-now
 
 -- Annex 4.8: a sound planner has a lazy start
 pub sound-start : (p : Planner) → Sound p → (s : ℕ) × IsLazyStart (slots-of (content p)) (cap-of (content p)) (streams-in (content p)) s

@@ -26,7 +26,6 @@ use Rattle.queue.specs.Interface
 use Rattle.queue.specs.declared.Queue.{Queue}
 use Rattle.planner.specs.Content.{content, now-of, cap-of, slots-of}
 use Rattle.planner.specs.Sound.{entry-of, Sound}
-use Rattle.planner.specs.Open.{setting-of}
 use Rattle.planner.specs.Facts.Open.{NumbersInRange, in-range-by-numbers}
 use Rattle.planner.specs.Needs.{IsSoundStart, CanCompare, IsFiled}
 use Rattle.planner.specs.declared.Planner.{Planner}
@@ -91,10 +90,10 @@ pub no-start : (p : Planner) → (Sound p → ⊥) → IsSoundStart p 0
 no-start p not-sound = record { unsound = λ _. not-sound; sound = λ some. absurd (lt-irrefl 0 some); start = λ some. absurd (lt-irrefl 0 some) }
 
 -- the table of a sound planner is in range, and near now
-pub table-in-range : (p : Planner) → Sound p → TableInRange (p .frame) (p .last + 1) (p .table)
+pub table-in-range : (p : Planner) → Sound p → TableInRange (p .setting .frame) (p .last + 1) (p .table)
 table-in-range p sound = record { count = sound .count; records = sound .content-sound .in-range .records; near = sound .content-sound .near }
 
-module _ (p : Planner) (numbers : NumbersInRange (setting-of (content p))) (range : TableInRange (p .frame) (p .last + 1) (p .table)) where
+module _ (p : Planner) (numbers : NumbersInRange (p .setting) (p .last)) (range : TableInRange (p .setting .frame) (p .last + 1) (p .table)) where
   late : (r : Record) → List·Mem r (records-of (p .table)) → due-of r ≤ p .last + 1 + 479
   late s m =
       let each = range .records .each s m in
@@ -112,8 +111,8 @@ module _ (p : Planner) (numbers : NumbersInRange (setting-of (content p))) (rang
       }
 
   -- .. and the demand rule can be tested on it
-  pub can-test-demand : CanTestDemand (slots-of (content p)) (p .frame) (p .table)
-  can-test-demand = record { count = range .count; slots = numbers .slots; frame = numbers .frame; records = range .records .each }
+  pub can-test-demand : CanTestDemand (slots-of (content p)) (p .setting .frame) (p .table)
+  can-test-demand = record { count = range .count; slots = numbers .setting .slots; frame = numbers .setting .frame; records = range .records .each }
 
   module _ (busy : ℕ) (is-busy : IsBusyLength (slots-of (content p)) (streams-of (p .table)) busy) where
     -- a start can be looked for under any cap that is not before now
@@ -121,7 +120,7 @@ module _ (p : Planner) (numbers : NumbersInRange (setting-of (content p))) (rang
     can-find-start open-cap some =
         record {
           count = range .count;
-          slots = numbers .slots;
+          slots = numbers .setting .slots;
           now = (omega arith, omega (arith, numbers .last));
           cap = open-cap;
           formed = λ s m. let each = range .records .each s m in (each .deadline, each .period .1);

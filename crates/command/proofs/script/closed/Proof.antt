@@ -10,7 +10,7 @@ open-requires : tie.Need-open-requires
 open-requires c κs = search needs
 
 returns : tie.Need-returns
-returns c = c .before .«open» .ensures .closed (λ zero. lt-irrefl 0 (open-in-range zeros zero .slots .0))
+returns c = c .before .«open» .ensures .closed (λ zero. lt-irrefl 0 (open-in-range {s = zeros} {t = 0} zero .setting .slots .0))
 
 pub closed-spec : {M : Type 1} → statement M
 closed-spec = tie.close (tie.spec open-requires returns)

@@ -8,7 +8,7 @@ empty-requires : tie.Need-empty-requires
 empty-requires c κs = search needs
 
 returns : tie.Need-returns
-returns c = with-empty-queue _ (c .empty .result) (c .empty .ensures)
+returns c = with-empty-queue _ _ (c .empty .result) (c .empty .ensures)
 
 pub without-streams-spec : {M : Type 1} → statement M
 without-streams-spec = tie.close (tie.spec empty-requires returns)

@@ -12,7 +12,7 @@ use Rattle.planner.proofs.slots.choose_sound.Statement.{statement}
 use Rattle.planner.proofs.slots.choose_sound.Tie as tie
 
 abbrev Inv-loop : tie.InvT-loop
-Inv-loop p start table streams order ids chosen₀ i₀ chosen i = Visited (p .queue) table (p .slots) start i chosen
+Inv-loop p start table streams order ids chosen₀ i₀ chosen i = Visited (p .queue) table (p .setting .slots) start i chosen
 
 abbrev μ-loop : tie.MeasureT-loop
 μ-loop p start table streams order ids chosen₀ i₀ chosen i = table .count - i
@@ -38,7 +38,7 @@ loop-holds c =
     none-visited (start .pre) (long start)
 
 cast-if2 : tie.Need-cast-if2 Inv-loop μ-loop
-cast-if2 c = omega (arith, from (c .before .before .before) .pre .sound .content-sound .in-range .slots)
+cast-if2 c = omega (arith, from (c .before .before .before) .pre .sound .content-sound .in-range .setting .slots)
 
 returns : tie.Need-returns Inv-loop μ-loop
 returns c =
@@ -126,7 +126,7 @@ loop-again c =
     let order = at .before .before .in-order-sound in
     let row = found .place-among-rising .result in
     let in-row = subst (λ (n : ℕ). IsPlaceAmong (ids .result) n row) (found .before .wide .ensures) (found .place-among-rising .ensures) in
-    let now-visited = Visited (p .queue) (p .table) (p .slots) (start .args .start) (at .loop .i + 1) in
+    let now-visited = Visited (p .queue) (p .table) (p .setting .slots) (start .args .start) (at .loop .i + 1) in
     ⊎-elim
     (λ w. subst⁻¹ now-visited (w .1)
     (one-more-taken-in (start .pre) (long start) (at .loop .inv) (more .if1 .taken) (order .ensures) (ids .ensures) in-row (free .if2 .left) (w .0 .taken)))

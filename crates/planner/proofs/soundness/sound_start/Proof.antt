@@ -4,7 +4,6 @@ use native.Mathlib.Omega.{arith}
 use Rattle.basics.specs.Facts.Decides.{failed, passed}
 use Rattle.table.specs.Range.{TableInRange}
 use Rattle.planner.specs.Content.{content}
-use Rattle.planner.specs.Open.{setting-of}
 use Rattle.planner.specs.Facts.Open.{NumbersInRange}
 use Rattle.planner.specs.Facts.SoundTest.{no-start, table-in-range, can-compare, can-test-demand, can-find-start, start-found}
 use Rattle.planner.proofs.Refused.{not-opened, opened-range}
@@ -18,14 +17,14 @@ open-refusal-requires c κs = search needs
 returns : tie.Need-returns
 returns c =
     let opened = c .before in
-    no-start _ (λ sound. not-opened (content (opened .before .args .p)) (opened .open-refusal .ensures) (c .if1 .taken) (sound .content-sound .in-range))
+    no-start _ (λ sound. not-opened (content (opened .before .before .args .p)) (opened .open-refusal .ensures) (c .if1 .taken) (sound .content-sound .in-range))
 
 -- past the first test B, F, G and L are in range ..
-numbers : (c : tie.Else1) → NumbersInRange (setting-of (content (c .before .before .args .p)))
-numbers c = opened-range _ (c .before .open-refusal .ensures) (c .if1 .left)
+numbers : (c : tie.Else1) → let p = c .before .before .before .args .p in NumbersInRange (p .setting) (p .last)
+numbers c = opened-range (c .before .open-refusal .ensures) (c .if1 .left)
 
 -- .. and past the second the table is
-range : (c : tie.Else2) → let p = c .before .before .before .before .before .before .args .p in TableInRange (p .frame) (p .last + 1) (p .table)
+range : (c : tie.Else2) → let p = c .before .before .before .before .before .before .before .args .p in TableInRange (p .setting .frame) (p .last + 1) (p .table)
 range c = passed (c .before .in-range .ensures) (c .if2 .left)
 
 add-now : tie.Need-add-now
@@ -40,7 +39,7 @@ returns-2 c = no-start _ (λ sound. failed (c .before .in-range .ensures) (c .if
 is-filed-in-range-requires : tie.Need-is-filed-in-range-requires
 is-filed-in-range-requires c κs =
     let first = c .before .before .before .before in
-    can-compare (first .before .before .args .p) (numbers first) (range c)
+    can-compare (first .before .before .before .args .p) (numbers first) (range c)
 
 returns-3 : tie.Need-returns-3
 returns-3 c = no-start _ (λ sound. failed (c .before .is-filed-in-range .ensures) (c .if3 .taken) (sound .queue-sound, sound .files))
@@ -49,7 +48,7 @@ busy-length-in-range-requires : tie.Need-busy-length-in-range-requires
 busy-length-in-range-requires c κs =
     let second = c .before .before in
     let first = second .before .before .before .before in
-    can-test-demand (first .before .before .args .p) (numbers first) (range second)
+    can-test-demand (first .before .before .before .args .p) (numbers first) (range second)
 
 returns-4 : tie.Need-returns-4
 returns-4 c = no-start _ (λ sound. c .before .busy-length-in-range .ensures .fails (c .if4 .taken) (sound .content-sound .demand-rule))
@@ -57,14 +56,14 @@ returns-4 c = no-start _ (λ sound. c .before .busy-length-in-range .ensures .fa
 add-next-start-in-range : tie.Need-add-next-start-in-range
 add-next-start-in-range c =
     let first = c .before .before .before .before .before .before .before .before .before in
-    omega (arith, numbers first .last, numbers first .gap)
+    omega (arith, numbers first .last, numbers first .setting .gap)
 
 next-start-in-range-requires : tie.Need-next-start-in-range-requires
 next-start-in-range-requires c κs =
     let second = c .before .before .before .before .before in
     let first = second .before .before .before .before in
-    can-find-start (first .before .before .args .p) (numbers first) (range second) _ (c .before .before .busy-length-in-range .ensures)
-    (omega (arith, numbers first .gap)) (omega (arith, c .before .if4 .left))
+    can-find-start (first .before .before .before .args .p) (numbers first) (range second) _ (c .before .before .busy-length-in-range .ensures)
+    (omega (arith, numbers first .setting .gap)) (omega (arith, c .before .if4 .left))
 
 returns-5 : tie.Need-returns-5
 returns-5 c =
@@ -72,7 +71,7 @@ returns-5 c =
     let filed = busy .before .before in
     let second = filed .before .before in
     let first = second .before .before .before .before in
-    start-found (first .before .before .args .p) (numbers first) (range second) _ (busy .before .busy-length-in-range .ensures)
+    start-found (first .before .before .before .args .p) (numbers first) (range second) _ (busy .before .busy-length-in-range .ensures)
     (omega (arith, busy .if4 .left)) (passed (filed .before .is-filed-in-range .ensures) (filed .if3 .left)) (c .next-start-in-range .ensures) (omega arith)
 
 pub sound-start-spec : {M : Type 1} → statement M

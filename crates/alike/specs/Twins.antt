@@ -5,7 +5,8 @@ use Prim.Native.Nat.{ℕ}
 use Rattle.planner.specs.Content.{content}
 use Rattle.planner.specs.Sound.{Sound}
 use Rattle.planner.specs.Open.{IsOpened}
-use Rattle.planner.specs.AddRemove.{Offer, IsAdd, IsRemove}
+use Rattle.planner.specs.declared.Offer.{Offer}
+use Rattle.planner.specs.AddRemove.{IsAdd, IsRemove}
 use Rattle.planner.specs.Round.{IsRound}
 use Rattle.planner.specs.declared.Setting.{Setting}
 use Rattle.planner.specs.declared.Planner.{Planner}

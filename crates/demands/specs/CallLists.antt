@@ -8,7 +8,8 @@ use lib.ListN.{length, take, getD}
 use Rattle.basics.specs.Refusals.{Refusal}
 use Rattle.rules.specs.Streams.{Stream, packet, MayRide}
 use Rattle.planner.specs.Content.{Content, content}
-use Rattle.planner.specs.AddRemove.{Offer, added, removed, add-refusals, remove-refusals, IsChange}
+use Rattle.planner.specs.declared.Offer.{Offer}
+use Rattle.planner.specs.AddRemove.{added, removed, add-refusals, remove-refusals, IsChange}
 use Rattle.planner.specs.Round.{IsRound}
 use Rattle.planner.specs.declared.Planner.{Planner}
 use Rattle.planner.specs.declared.Changed.{Changed}

@@ -5,7 +5,8 @@ use Prim.Native.Nat.{ℕ, _+_, _*_, _≤_}
 use lib.ListN.{length, take}
 use Rattle.superframe.specs.Superframe.{superframe-of, packed}
 use Rattle.planner.specs.Open.{setting, IsOpened}
-use Rattle.planner.specs.AddRemove.{Offer, offer, IsAdd, IsRemove}
+use Rattle.planner.specs.declared.Offer.{Offer}
+use Rattle.planner.specs.AddRemove.{offer, IsAdd, IsRemove}
 use Rattle.planner.specs.Round.{IsRound}
 use Rattle.planner.specs.declared.Setting.{Setting}
 use Rattle.planner.specs.declared.Planner.{Planner}

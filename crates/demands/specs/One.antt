@@ -7,7 +7,8 @@ use Rattle.basics.specs.Refusals.{FirstOf}
 use Rattle.planner.specs.Content.{content}
 use Rattle.planner.specs.Sound.{Sound}
 use Rattle.planner.specs.Open.{zeros, open-refusals, opened, IsFresh, IsOpened}
-use Rattle.planner.specs.AddRemove.{Offer, add-refusals, remove-refusals, IsAdd, IsRemove}
+use Rattle.planner.specs.declared.Offer.{Offer}
+use Rattle.planner.specs.AddRemove.{add-refusals, remove-refusals, IsAdd, IsRemove}
 use Rattle.planner.specs.Round.{round-refusals, IsRefusedRound, IsRound}
 use Rattle.planner.specs.declared.Setting.{Setting}
 use Rattle.planner.specs.declared.Planner.{Planner}

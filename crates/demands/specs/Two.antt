@@ -11,7 +11,8 @@ use Rattle.rules.specs.Plans.{Servable}
 use Rattle.planner.specs.Content.{Content, content, now-of, cap-of, slots-of, streams-in}
 use Rattle.planner.specs.Sound.{Sound}
 use Rattle.planner.specs.Open.{opened}
-use Rattle.planner.specs.AddRemove.{Offer, added, IsWellFormed, IsSoundWith, IsAdd}
+use Rattle.planner.specs.declared.Offer.{Offer}
+use Rattle.planner.specs.AddRemove.{added, IsWellFormed, IsSoundWith, IsAdd}
 use Rattle.planner.specs.Round.{IsHeldRound, IsRound}
 use Rattle.planner.specs.Start.{IsStart}
 use Rattle.planner.specs.declared.Planner.{Planner}

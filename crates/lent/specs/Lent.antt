@@ -2,7 +2,8 @@
 use mathlib.Core.List.{List}
 use Prim.Native.Nat.{ℕ}
 use Rattle.planner.specs.Open.{IsOpened}
-use Rattle.planner.specs.AddRemove.{Offer, IsAdd, IsRemove}
+use Rattle.planner.specs.declared.Offer.{Offer}
+use Rattle.planner.specs.AddRemove.{IsAdd, IsRemove}
 use Rattle.planner.specs.Round.{IsRound}
 use Rattle.planner.specs.declared.Setting.{Setting}
 use Rattle.planner.specs.declared.Planner.{Planner}

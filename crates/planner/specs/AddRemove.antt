@@ -16,16 +16,10 @@ use Rattle.planner.specs.Sound.{Sound}
 use Rattle.planner.specs.Decide.{decide-sound}
 use Rattle.planner.specs.Open.{not-in}
 use Rattle.planner.specs.declared.Planner.{Planner}
+use Rattle.planner.specs.declared.Offer.{Offer}
 use Rattle.planner.specs.declared.Changed.{Changed}
 
--- Annex 7.1: what add is passed, any numbers: an id, S, P and D.
-pub record Offer : Type 0 where
-  pub id : ℕ
-  pub start : ℕ
-  pub period : ℕ
-  pub deadline : ℕ
-
--- Annex 7.10: these numbers, in the order of id, S, P and D, as an offer.
+-- Annex 7.1, 7.10: what add is passed, any numbers, in the order of id, S, P and D, as an offer.
 abbrev pub offer : (id start period deadline : ℕ) → Offer
 offer id start period deadline = record { id = id; start = start; period = period; deadline = deadline }
 

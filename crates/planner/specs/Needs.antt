@@ -15,7 +15,8 @@ use Rattle.queue.specs.Interface
 use Rattle.queue.specs.declared.Queue.{Queue}
 use Rattle.planner.specs.Content.{Content, content, slots-of, streams-in, now-of}
 use Rattle.planner.specs.Sound.{Files, Sound}
-use Rattle.planner.specs.AddRemove.{Offer, added, IsWellFormed}
+use Rattle.planner.specs.declared.Offer.{Offer}
+use Rattle.planner.specs.AddRemove.{added, IsWellFormed}
 use Rattle.planner.specs.Round.{ids-at, round-refusals}
 use Rattle.planner.specs.Start.{IsStart}
 use Rattle.planner.specs.declared.Planner.{Planner}

@@ -32,6 +32,14 @@ pub struct Planner {
     pub queue: Queue,
 }
 
+// What add is passed: a stream's id, the start S of its first packet, P and D.
+pub struct Offer {
+    pub id: u32,
+    pub start: u32,
+    pub period: u32,
+    pub deadline: u32,
+}
+
 // What a change answers, and the planner after it.
 pub struct Changed {
     pub answer: u32,
@@ -50,12 +58,13 @@ pub struct Rounded {
 pub fn add(p: Planner, id: u32, start: u32, period: u32, deadline: u32) -> Changed
     ensures { λ r. ⌜ IsAdd p (offer id start period deadline) r ⌝ }
 {
-    let answer = offers::add_refusal(p, id, start, period, deadline);
-    if answer != 0 {
-        return Changed { answer, planner: p };
-    }
-    let planner = offers::add_sound(p, id, start, period, deadline);
-    Changed { answer: 0, planner }
+    let offer = Offer {
+        id,
+        start,
+        period,
+        deadline,
+    };
+    offers::add_offer(p, offer)
 }
 
 // Annex 7.22, 7.23: takes a stream out, and its waiting packet with it.

@@ -10,8 +10,9 @@ use Rattle.basics.specs.Facts.Refusals.{answer-first, answer-later, answer-zero
 use Rattle.planner.specs.Content.{Content, content}
 use Rattle.planner.specs.Sound.{Sound}
 use Rattle.planner.specs.Decide.{decide-sound}
+use Rattle.planner.specs.declared.Offer.{Offer}
 use Rattle.planner.specs.Open.{open-refusals, IsOpened}
-use Rattle.planner.specs.AddRemove.{Offer, unsound, not-held, IsChange, IsAdd, IsRemove}
+use Rattle.planner.specs.AddRemove.{unsound, not-held, IsChange, IsAdd, IsRemove}
 use Rattle.planner.specs.Round.{short-buffer, late-start, IsRound}
 use Rattle.planner.specs.Facts.Calls.{refused-change, change-keeps-sound, refused-round, round-keeps-sound, held-is-sound}
 use Rattle.planner.specs.declared.Setting.{Setting}

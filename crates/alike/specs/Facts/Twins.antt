@@ -14,7 +14,8 @@ use Rattle.planner.specs.Content.{Content, content, cap-of, slots-of, streams-i
 use Rattle.planner.specs.Sound.{Sound}
 use Rattle.planner.specs.Decide.{decide-sound}
 use Rattle.planner.specs.Open.{open-refusals, IsOpened}
-use Rattle.planner.specs.AddRemove.{Offer, unsound, offer-refusals, rule-refusals, added, removed, not-held, IsSoundWith, IsChange}
+use Rattle.planner.specs.declared.Offer.{Offer}
+use Rattle.planner.specs.AddRemove.{unsound, offer-refusals, rule-refusals, added, removed, not-held, IsSoundWith, IsChange}
 use Rattle.planner.specs.Round.{ids-at, rounded, short-buffer, late-start, IsRound, IsHeldRound}
 use Rattle.planner.specs.Start.{IsStart, StartsLate}
 use Rattle.planner.specs.Facts.Calls.{refused-change, success-change, refused-round, success-round}

@@ -3,12 +3,13 @@ use mathlib.Core.Path.{_≡_, sym, _∙_}
 use mathlib.Core.List.{List}
 use Prim.Native.Nat.{ℕ}
 use Rattle.planner.specs.Open.{zeros, opened, IsFresh, IsOpened}
-use Rattle.planner.specs.AddRemove.{Offer, IsAdd, IsRemove}
+use Rattle.planner.specs.AddRemove.{IsAdd, IsRemove}
 use Rattle.planner.specs.Round.{IsRound}
 use Rattle.planner.specs.Facts.Open.{open-success-is-sound, closed-is-not-sound}
 use Rattle.planner.specs.Facts.Calls.{answers-first, refused-change, change-keeps-sound, refused-round, round-keeps-sound}
 use Rattle.planner.specs.declared.Setting.{Setting}
 use Rattle.planner.specs.declared.Planner.{Planner}
+use Rattle.planner.specs.declared.Offer.{Offer}
 use Rattle.planner.specs.declared.Changed.{Changed}
 use Rattle.planner.specs.declared.Rounded.{Rounded}
 use Rattle.demands.specs.One.{OpenMeets, AddMeets, RemoveMeets, RoundMeets, Demand1}

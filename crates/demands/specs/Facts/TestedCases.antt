@@ -20,7 +20,8 @@ use Rattle.planner.specs.Content.{Content, content, now-of, cap-of, slots-of, f
 use Rattle.planner.specs.Sound.{ContentSound, Sound}
 use Rattle.planner.specs.Facts.Sound.{all-formed, fits-now, frame-is-busy}
 use Rattle.planner.specs.Open.{open-refusals}
-use Rattle.planner.specs.AddRemove.{Offer, added, unsound, offer-refusals, breaks-demand, breaks-start, not-held, IsChange, IsAdd, IsRemove}
+use Rattle.planner.specs.declared.Offer.{Offer}
+use Rattle.planner.specs.AddRemove.{added, unsound, offer-refusals, breaks-demand, breaks-start, not-held, IsChange, IsAdd, IsRemove}
 use Rattle.planner.specs.Round.{ids-at, rounded, IsRound}
 use Rattle.planner.specs.Start.{IsStart}
 use Rattle.planner.specs.Facts.Calls.{refused-change, success-change, refused-round, success-round, held-exactly, seventeen-exactly}

@@ -18,7 +18,8 @@ use Rattle.rules.specs.Facts.SlotPackets.{slots-are-first}
 use Rattle.planner.specs.Content.{Content, content, now-of, cap-of, slots-of, streams-in}
 use Rattle.planner.specs.Sound.{Sound}
 use Rattle.planner.specs.Facts.Sound.{content-table, sound-start, due-after-now}
-use Rattle.planner.specs.AddRemove.{Offer, offered, added, breaks-demand, breaks-start, add-refusals, IsWellFormed, IsSoundWith, IsAdd}
+use Rattle.planner.specs.declared.Offer.{Offer}
+use Rattle.planner.specs.AddRemove.{offered, added, breaks-demand, breaks-start, add-refusals, IsWellFormed, IsSoundWith, IsAdd}
 use Rattle.planner.specs.Round.{IsHeldRound, IsRound}
 use Rattle.planner.specs.Start.{IsStart}
 use Rattle.planner.specs.Facts.Table.{put-is-table, put-due-after}

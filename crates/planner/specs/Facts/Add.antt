@@ -24,7 +24,8 @@ use Rattle.planner.specs.Content.{Content, content, now-of, slots-of, st
 use Rattle.planner.specs.Sound.{entry-of, Sound}
 use Rattle.planner.specs.Decide.{decide-sound}
 use Rattle.planner.specs.Facts.Open.{NumbersInRange, range-numbers, in-limit}
-use Rattle.planner.specs.AddRemove.{Offer, offered, added, unsound, offer-refusals, rule-refusals, add-refusals, IsWellFormed, IsSoundWith}
+use Rattle.planner.specs.declared.Offer.{Offer}
+use Rattle.planner.specs.AddRemove.{offered, added, unsound, offer-refusals, rule-refusals, add-refusals, IsWellFormed, IsSoundWith}
 use Rattle.planner.specs.Facts.Files.{can-insert, files-inserted}
 use Rattle.planner.specs.Facts.Kept.{added-in-range, added-sound}
 use Rattle.planner.specs.Facts.SoundTest.{can-test-demand, can-find-start}

@@ -26,7 +26,8 @@ use Rattle.planner.specs.Content.{Content, slots-of, streams-in, now-of,
 use Rattle.planner.specs.Sound.{InRange, ContentSound}
 use Rattle.planner.specs.Facts.Sound.{fits-now, content-ready}
 use Rattle.planner.specs.Facts.Open.{range-numbers, in-range-by-numbers}
-use Rattle.planner.specs.AddRemove.{Offer, offered, added, removed, IsWellFormed}
+use Rattle.planner.specs.declared.Offer.{Offer}
+use Rattle.planner.specs.AddRemove.{offered, added, removed, IsWellFormed}
 use Rattle.planner.specs.Round.{ids-at, sent-in, rounded}
 use Rattle.planner.specs.Start.{IsStart}
 use Rattle.planner.specs.Facts.Table.{put-all, put-by-id-length, put-by-id-ascending}

@@ -5,7 +5,6 @@ use Rattle.basics.specs.Facts.Refusals.{first-is-answer}
 use Rattle.basics.specs.Refusals.{here}
 use Rattle.planner.specs.Content.{content}
 use Rattle.planner.specs.Sound.{Sound}
-use Rattle.planner.specs.AddRemove.{offer}
 use Rattle.planner.specs.Needs.{CanTest}
 use Rattle.planner.specs.Facts.Add.{offer-passed, by-offer, by-rules}
 use borrow.Author.Needs.{needs}
@@ -29,7 +28,7 @@ returns-2 c =
     c .before .offer-refusal-sound .ensures
     ∙ by-offer (c .before .before .before .before .args .p) _ (sound (c .before .before)) (λ zero. (c .if2 .taken) (c .before .offer-refusal-sound .ensures ∙ zero))
 
-can-test : (c : tie.Else2) → let a = c .before .before .before .before .args in CanTest (a .p) (offer (a .id) (a .start) (a .period) (a .deadline))
+can-test : (c : tie.Else2) → let a = c .before .before .before .before .args in CanTest (a .p) (a .offer)
 can-test c =
     record {
       sound = sound (c .before .before);

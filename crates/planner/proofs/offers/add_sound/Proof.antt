@@ -11,10 +11,10 @@ add-insert-sound : tie.Need-add-insert-sound
 add-insert-sound c = search needs
 
 insert-sound-requires : tie.Need-insert-sound-requires
-insert-sound-requires c κs = can-file (c .before .before .pre .can-test)
+insert-sound-requires c κs = can-file (c .before .before .before .pre .can-test)
 
 returns : tie.Need-returns
-returns c = taken-in (c .before .before .before .pre) (c .before .before .table-with-sound .ensures) (c .insert-sound .ensures)
+returns c = taken-in (c .before .before .before .before .pre) (c .before .before .before .table-with-sound .ensures) (c .insert-sound .ensures)
 
 pub add-sound-spec : {M : Type 1} → statement M
 add-sound-spec =

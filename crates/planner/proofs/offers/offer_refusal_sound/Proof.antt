@@ -33,13 +33,13 @@ abbrev call-4 : tie.Else4 → tie.Start
 call-4 c = call-3 (c .before .before)
 
 abbrev call-5 : tie.Else5 → tie.Start
-call-5 c = call-4 (c .before .before)
+call-5 c = call-4 (c .before .before .before)
 
 abbrev call-6 : tie.Else6 → tie.Start
 call-6 c = call-5 (c .before .before)
 
 abbrev call-7 : tie.Else7 → tie.Start
-call-7 c = call-6 (c .before .before)
+call-7 c = call-6 (c .before .before .before)
 
 -- the table has 64 places, as its type says
 long : (start : tie.Start) → length (start .args .p .table .streams) ≡ 64
@@ -52,7 +52,7 @@ returns : tie.Need-returns
 returns c = first-is-answer (here (failed (c .before .is-one-to .ensures) (c .if1 .taken)))
 
 -- no earlier refusal applies: past the test of the id, and so on below
-past-id : (c : tie.Else1) {rs : List Refusal} {n : ℕ} → FirstOf rs n → FirstOf (bad-id (call-1 c .args .id) ∷ rs) n
+past-id : (c : tie.Else1) {rs : List Refusal} {n : ℕ} → FirstOf rs n → FirstOf (bad-id (call-1 c .args .offer .id) ∷ rs) n
 past-id c rest = later {r = bad-id _} (λ bad. bad (passed (c .before .is-one-to .ensures) (c .if1 .left))) rest
 
 place-of-in-range-requires : tie.Need-place-of-in-range-requires
@@ -64,7 +64,7 @@ returns-2 c =
     first-is-answer (past-id (found .before .before) (here (held-by-place _ _ _ (found .place-of-in-range .ensures) (c .if2 .taken))))
 
 past-held : (c : tie.Else2) {rs : List Refusal} {n : ℕ} → FirstOf rs n → let a = call-2 c .args in
-    FirstOf (bad-id (a .id) ∷ id-held (a .id) (content (a .p)) ∷ rs) n
+    FirstOf (bad-id (a .offer .id) ∷ id-held (a .offer .id) (content (a .p)) ∷ rs) n
 past-held c rest =
     let found = c .before .before in
     past-id (found .before .before) (later (found .place-of-in-range .ensures .absent (c .if2 .left)) rest)
@@ -75,7 +75,7 @@ returns-3 c =
     first-is-answer (past-held new (here (is-full (call-2 new .pre) (long (call-2 new)) (c .if3 .taken))))
 
 past-full : (c : tie.Else3) {rs : List Refusal} {n : ℕ} → FirstOf rs n → let a = call-3 c .args in
-    FirstOf (bad-id (a .id) ∷ id-held (a .id) (content (a .p)) ∷ full (content (a .p)) ∷ rs) n
+    FirstOf (bad-id (a .offer .id) ∷ id-held (a .offer .id) (content (a .p)) ∷ full (content (a .p)) ∷ rs) n
 past-full c rest = past-held (c .before .before) (later (has-room (call-3 c .pre) (long (call-3 c)) (c .if3 .left)) rest)
 
 is-one-to-requires-2 : tie.Need-is-one-to-requires-2
@@ -85,22 +85,22 @@ returns-4 : tie.Need-returns-4
 returns-4 c =
     first-is-answer (past-full (c .before .before) (here (λ fine. failed (c .before .is-one-to2 .ensures) (c .if4 .taken) (fine .0))))
 
-some-period : (c : tie.Else4) → OneTo 240 (call-4 c .args .period)
+some-period : (c : tie.Else4) → OneTo 240 (call-4 c .args .offer .period)
 some-period c = passed (c .before .is-one-to2 .ensures) (c .if4 .left)
 
 rem-if5 : tie.Need-rem-if5
-rem-if5 c = some-period (c .before) .0
+rem-if5 c = some-period (c .before .before) .0
 
 returns-5 : tie.Need-returns-5
 returns-5 c =
-    let some = c .before .before in
+    let some = c .before .before .before in
     first-is-answer (past-full (some .before .before) (here (λ fine. c .if5 .taken (mod-eq-zero-of-dvd _ (fine .1)))))
 
 past-period : (c : tie.Else5) {rs : List Refusal} {n : ℕ} → FirstOf rs n → let a = call-5 c .args in
     let h = content (a .p) in
-    FirstOf (bad-id (a .id) ∷ id-held (a .id) h ∷ full h ∷ bad-period (a .period) h ∷ rs) n
+    FirstOf (bad-id (a .offer .id) ∷ id-held (a .offer .id) h ∷ full h ∷ bad-period (a .offer .period) h ∷ rs) n
 past-period c rest =
-    let some = c .before .before in
+    let some = c .before .before .before in
     past-full (some .before .before) (later (λ bad. bad (some-period some, dvd-of-mod-eq-zero _ (c .if5 .left))) rest)
 
 is-one-to-requires-3 : tie.Need-is-one-to-requires-3
@@ -111,12 +111,12 @@ returns-6 c = first-is-answer (past-period (c .before .before) (here (failed (c 
 
 past-deadline : (c : tie.Else6) {rs : List Refusal} {n : ℕ} → FirstOf rs n → let a = call-6 c .args in
     let h = content (a .p) in
-    FirstOf (bad-id (a .id) ∷ id-held (a .id) h ∷ full h ∷ bad-period (a .period) h ∷ bad-deadline (a .deadline) (a .period) ∷ rs) n
+    FirstOf (bad-id (a .offer .id) ∷ id-held (a .offer .id) h ∷ full h ∷ bad-period (a .offer .period) h ∷ bad-deadline (a .offer .deadline) (a .offer .period) ∷ rs) n
 past-deadline c rest = past-period (c .before .before) (later (λ bad. bad (passed (c .before .is-one-to3 .ensures) (c .if6 .left))) rest)
 
 returns-7 : tie.Need-returns-7
 returns-7 c =
-    let formed = c .before .before in
+    let formed = c .before .before .before in
     first-is-answer (past-deadline formed (here (too-early (content (call-6 formed .args .p)) _ (c .if7 .taken))))
 
 add-if8 : tie.Need-add-if8
@@ -124,14 +124,14 @@ add-if8 c = omega (arith, call-7 (c .before) .pre .content-sound .in-range .last
 
 returns-8 : tie.Need-returns-8
 returns-8 c =
-    let after = c .before .before in
-    first-is-answer (past-deadline (after .before .before) (here (too-late (content (call-7 after .args .p)) _ (c .if8 .taken))))
+    let after = c .before .before .before in
+    first-is-answer (past-deadline (after .before .before .before) (here (too-late (content (call-7 after .args .p)) _ (c .if8 .taken))))
 
 returns-9 : tie.Need-returns-9
 returns-9 c =
-    let after = c .before .before in
+    let after = c .before .before .before in
     let near = near-now (content (call-7 after .args .p)) _ (after .if7 .left) (c .if8 .left) in
-    first-is-answer (past-deadline (after .before .before) (later (λ bad. bad near) none))
+    first-is-answer (past-deadline (after .before .before .before) (later (λ bad. bad near) none))
 
 pub offer-refusal-sound-spec : {M : Type 1} → statement M
 offer-refusal-sound-spec =

@@ -5,7 +5,7 @@ use Rattle.basics.specs.Refusals.{none, here, later}
 use Rattle.rules.specs.Demand.{DemandRule}
 use Rattle.table.specs.Lengths.{IsNextStart}
 use Rattle.planner.specs.Content.{content, now-of, slots-of, streams-in}
-use Rattle.planner.specs.AddRemove.{offer, added}
+use Rattle.planner.specs.AddRemove.{added}
 use Rattle.planner.specs.Facts.Add.{can-test-table, can-find-table, busy-of-added, start-of-added}
 use borrow.Author.Needs.{needs}
 use Rattle.planner.proofs.offers.rule_refusal_sound.Statement.{statement}
@@ -24,7 +24,7 @@ returns c =
 
 -- with a busy length the demand rule holds
 demand-kept : (c : tie.Else1) → let a = c .before .before .before .args in
-    let h = added (content (a .p)) (offer (a .id) (a .start) (a .period) (a .deadline)) in DemandRule (slots-of h) (streams-in h)
+    let h = added (content (a .p)) (a .offer) in DemandRule (slots-of h) (streams-in h)
 demand-kept c =
     let begun = c .before .before in
     busy-of-added (begun .before .pre) (begun .table-with-sound .ensures) (c .before .busy-length-in-range .ensures) .holds (omega (arith, c .if1 .left))
@@ -39,7 +39,7 @@ next-start-in-range-requires c κs =
 
 -- the start looked for is one of what the planner would hold
 start-answered : (c : tie.After-next-start-in-range) → let a = c .before .before .before .before .before .args in
-    let h = added (content (a .p)) (offer (a .id) (a .start) (a .period) (a .deadline)) in
+    let h = added (content (a .p)) (a .offer) in
     IsNextStart (slots-of h) (now-of h) (now-of h) (streams-in h) (c .next-start-in-range .result)
 start-answered c =
     let begun = c .before .before .before .before in

@@ -1,10 +1,10 @@
--- `planner::add` meets its contract: refused, it hands the planner back; else the planner holds the stream too.
+-- `planner::offers::add_offer` meets its contract: refused, it hands the planner back; else the planner holds the stream too.
 use mathlib.Core.Path.{sym, _∙_}
 use Rattle.planner.specs.Facts.Changes.{change-refused, change-done}
 use Rattle.planner.specs.Facts.Add.{can-add}
 use borrow.Author.Needs.{needs}
-use Rattle.planner.proofs.add.Statement.{statement}
-use Rattle.planner.proofs.add.Tie as tie
+use Rattle.planner.proofs.offers.add_offer.Statement.{statement}
+use Rattle.planner.proofs.offers.add_offer.Tie as tie
 
 add-refusal-requires : tie.Need-add-refusal-requires
 add-refusal-requires c κs = search needs
@@ -18,5 +18,5 @@ add-sound-requires c κs = can-add (c .before .before .args .p) _ (sym (c .befor
 returns-2 : tie.Need-returns-2
 returns-2 c = change-done (c .before .before .add-refusal .ensures) (c .before .if1 .left) (c .add-sound .ensures)
 
-pub add-spec : {M : Type 1} → statement M
-add-spec = tie.close (tie.spec add-refusal-requires returns add-sound-requires returns-2)
+pub add-offer-spec : {M : Type 1} → statement M
+add-offer-spec = tie.close (tie.spec add-refusal-requires returns add-sound-requires returns-2)

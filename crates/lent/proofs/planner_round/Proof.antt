@@ -51,8 +51,7 @@ use Rattle.planner.proofs.round.Met as callee-thm
 use Rattle.lent.specs.declared.Held.{Held}
 use Rattle.lent.proofs.Held as T
 use Rattle.lent.proofs.Held.Laws as T′
-use Rattle.lent.proofs.Owned.{mach, IsPlanner, Closed, planner-owned}
-use Rattle.lent.proofs.Stored.{copies-out, local-then, stores-if}
+use Rattle.lent.proofs.Stored.{mach, IsPlanner, Closed, planner-owned, copies-out, local-then, stores-if}
 use Rattle.lent.proofs.planner_round.Key.{name as #planner-round}
 use Rattle.lent.proofs.planner_round as f
 use Rattle.lent.proofs.planner_round.Statement as stated

@@ -1,4 +1,5 @@
 -- What is proved of the definitions beside this folder; a reader may believe it unread.
+pub mod Streams
 pub mod Table
 pub mod Ids
 pub mod Changes

@@ -18,7 +18,7 @@ abbrev pub stream-of : Record → Stream
 stream-of r = record { number = r .id; period = r .period; deadline = r .deadline; release = r .release }
 
 -- Annex 3.2: what the rules see of records: a stream for each.
-abbrev pub as-streams : List Record → List Stream
+unfoldable pub as-streams : List Record → List Stream
 as-streams rs = map stream-of rs
 
 -- Annex 3.2: what the rules see of a table in code.

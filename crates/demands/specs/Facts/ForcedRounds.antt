@@ -1,15 +1,14 @@
 -- Rivals of a table without streams.
-use mathlib.Core.Path.{_≡_, subst}
+use mathlib.Core.Path.{_≡_}
 use mathlib.Core.Logic.{∥∥₁-elim}
 use mathlib.Core.HLevel.{⊥-prop}
-use mathlib.Core.List.{List, [], List·Mem, nodup-nil, not-mem-nil}
+use mathlib.Core.List.{[], nodup-nil, not-mem-nil}
 use Prim.Native.Nat.{ℕ, _≤_, _<_}
 use native.Mathlib.Nat.{lt-irrefl, lt-of-lt-of-le}
 use native.Mathlib.Omega.{arith}
 use Rattle.rules.specs.Streams.{Packet, PacketOf}
 use Rattle.rules.specs.Plans.{Round, IsPlan}
-use Rattle.table.specs.Table.{as-streams}
-use Rattle.table.specs.declared.Record.{Record}
+use Rattle.table.specs.Facts.Streams.{none-seen}
 use Rattle.planner.specs.Content.{Content, now-of, slots-of, streams-in}
 use Rattle.demands.specs.Rivals.{KeepsGapOf, IsRivalOf, forced-start, forced-rounds}
 
@@ -19,7 +18,7 @@ pub rival-without-streams : (h : Content) → h .table ≡ [] → (plan : ℕ �
 rival-without-streams h empty plan is-plan keeps-gap = record { is-plan = is-plan; serves = λ one is. absurd (none-of one is); keeps-gap = keeps-gap }
   where
     none-of : (one : Packet) → PacketOf (streams-in h) one → ⊥
-    none-of one is = ∥∥₁-elim is ⊥-prop (λ w. not-mem-nil (subst (λ (rs : List Record). List·Mem (w .0) (as-streams rs)) empty (w .1)))
+    none-of one is = ∥∥₁-elim is ⊥-prop (λ w. not-mem-nil (rw (empty, none-seen) at (w .1)))
 
 -- Annex 12.14: with no stream the rounds that only the gap forces are a rival ..
 pub forced-is-rival : (h : Content) → h .table ≡ [] → IsRivalOf h (forced-rounds h)

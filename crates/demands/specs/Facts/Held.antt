@@ -16,6 +16,7 @@ use Rattle.rules.specs.Facts.Slots.{IsChoice, choice-differ}
 use Rattle.rules.specs.Facts.RoundKept.{round-choice, served-iff}
 use Rattle.rules.specs.Facts.Packets.{advanced, advanced-none, packet-advanced}
 use Rattle.table.specs.Table.{stream-of, with-release}
+use Rattle.table.specs.Facts.Streams.{seen-changed, numbers}
 use Rattle.table.specs.Changes.{HasId}
 use Rattle.table.specs.declared.Record.{Record}
 use Rattle.planner.specs.Content.{Content, content, slots-of, streams-in, now-of, cap-of, start-gap-of, with-table, with-last}
@@ -46,7 +47,7 @@ after-rounds h rounds = with-table (with-last h (last-of (h .last) rounds)) (map
 
 -- and what the rules see of it
 pub seen-after : (h : Content) (rounds : List HeldRound) → streams-in (after-rounds h rounds) ≡ map (sent-in rounds) (streams-in h)
-seen-after h rounds = map-map stream-of (record-sent rounds) (h .table) ∙ sym (map-map (sent-in rounds) stream-of (h .table))
+seen-after h rounds = seen-changed (record-sent rounds) (sent-in rounds) (h .table) (λ r. refl)
 
 -- the round at s of the lazy rule's slots
 abbrev pub slots-round : Content → ℕ → HeldRound
@@ -113,9 +114,9 @@ module _ (h : Content) (rounds : List HeldRound) (sound : ContentSound (after-ro
   -- every id in the round is that of a record where the list began
   ids-are-held : (id : ℕ) → List·Mem id (ids-at so-far s) → HasId id (h .table)
   ids-are-held id listed =
-      let numbers : map (λ (x : Stream). x .number) (streams-in so-far) ≡ map (λ (r : Record). r .id) (h .table) =
-      map-map (λ (x : Stream). x .number) stream-of (so-far .table) ∙ map-map (λ (r : Record). r .id) (record-sent rounds) (h .table) in
-      subst (List·Mem id) numbers
+      let same-ids : map (λ (x : Stream). x .number) (streams-in so-far) ≡ map (λ (r : Record). r .id) (h .table) =
+      numbers (so-far .table) ∙ map-map (λ (r : Record). r .id) (record-sent rounds) (h .table) in
+      subst (List·Mem id) same-ids
       (∥∥₁-elim (mem-map .0 listed) List·Mem-prop (λ (x, slot, same).
       subst (λ (n : ℕ). List·Mem n (map (λ (x : Stream). x .number) (streams-in so-far))) same
       (mem-map-of-mem (λ (x : Stream). x .number) (is-choice .inside x slot))))

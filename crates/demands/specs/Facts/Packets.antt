@@ -13,7 +13,7 @@ use Rattle.rules.specs.Streams.{Stream}
 use Rattle.rules.specs.Slots.{slots}
 use Rattle.rules.specs.Facts.Slots.{IsChoice, choice-differ}
 use Rattle.rules.specs.Facts.RoundKept.{round-choice}
-use Rattle.table.specs.Facts.Table.{all-streams}
+use Rattle.table.specs.Facts.Streams.{all-streams}
 use Rattle.planner.specs.Content.{Content, content, now-of, cap-of, slots-of, streams-in}
 use Rattle.planner.specs.Sound.{Sound}
 use Rattle.planner.specs.Facts.Sound.{content-ready}

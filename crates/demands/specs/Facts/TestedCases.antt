@@ -15,6 +15,7 @@ use Rattle.rules.specs.Demand.{packets-by, demand, future, DemandRule, StartRul
 use Rattle.rules.specs.Slots.{riders, goes-before, put-in-order, in-order, slots}
 use Rattle.rules.specs.Facts.LazyStart.{least-of, latest, lazy-start, lazy-start-is-lazy, lazy-unique, first-due, first-due-is-first}
 use Rattle.rules.specs.Facts.Tests.{both, all-below, is-table, is-busy, keeps-demand, keeps-start, is-ready, tested-demand, tested-ready}
+use Rattle.table.specs.Table.{as-streams}
 use Rattle.table.specs.Changes.{put-by-id}
 use Rattle.planner.specs.Content.{Content, content, now-of, cap-of, slots-of, frame-of, streams-in}
 use Rattle.planner.specs.Sound.{ContentSound, Sound}
@@ -64,12 +65,12 @@ all-pass-below f (suc n) each = and-eq-true-iff (f n) (all-below f n) .1 (each n
 
 -- a table of which one frame of lengths tells whether it keeps the two rules
 unfoldable pub is-askable : Content → Bool
-unfolding is-table is-busy first-due
+unfolding is-table is-busy first-due as-streams
 is-askable h = is-table (streams-in h) && (is-busy (slots-of h) (streams-in h) (frame-of h) && ltb (now-of h) (first-due (streams-in h)))
 
 -- what the two rules answer to it
 unfoldable pub rules-answer : Content → ℕ
-unfolding keeps-demand keeps-start
+unfolding keeps-demand keeps-start as-streams
 rules-answer h = cond (keeps-demand (slots-of h) (streams-in h) (frame-of h)) (cond (keeps-start (slots-of h) (now-of h) (streams-in h) (frame-of h)) 0 13) 12
 
 module _ (h : Content) where
@@ -164,7 +165,7 @@ change-leaves {refusals} {p} {changed} {r} is answer answered = go (eqb answer 0
 
 -- the start, looked for in one frame of lengths
 unfoldable pub start-in : Content → ℕ
-unfolding lazy-start least-of latest first-due future packets-by decLe decLt
+unfolding lazy-start least-of latest first-due future packets-by decLe decLt as-streams
 start-in h = lazy-start (slots-of h) (cap-of h) (streams-in h) (first-due (streams-in h)) (frame-of h)
 
 start-in-is-start : (h : Content) → ContentSound h → IsStart h (start-in h)
@@ -191,7 +192,7 @@ tested-ids (x ∷ xs) (y ∷ ys) tested =
 
 -- the start is s, the clock reaches it, and its slots are these n ids
 unfoldable pub held-test : Content → ℕ → ℕ → List ℕ → Bool
-unfolding start-in same-ids slots in-order put-in-order goes-before riders Dec·and
+unfolding start-in same-ids slots in-order put-in-order goes-before riders Dec·and as-streams
 held-test h s n ids = (eqb (start-in h) s && leb s 1_000_000_000) && (eqb (length ids) n && same-ids (ids-at h s) ids)
 
 -- the start is after the last one

@@ -13,6 +13,7 @@ use Rattle.rules.specs.Streams.{Stream}
 use Rattle.rules.specs.Demand.{future}
 use Rattle.rules.specs.Slots.{riders, in-order, slots}
 use Rattle.rules.specs.Facts.LazyStart.{lazy-unique}
+use Rattle.table.specs.Facts.Streams.{none-seen}
 use Rattle.table.specs.Facts.Start.{nothing-due}
 use Rattle.planner.specs.Content.{Content, content, now-of, cap-of, slots-of, streams-in}
 use Rattle.planner.specs.Sound.{ContentSound, Sound}
@@ -132,9 +133,9 @@ module _ (h : Content) (empty : h .table ≡ []) where
   unfolding future
   empty-start sound =
       let gap = sound .in-range .setting .gap .0 in
-      nothing-due (slots-of h) (now-of h) (cap-of h) (streams-in h) (omega arith) (omega arith) (λ t. rw empty refl) .lazy (omega arith)
+      nothing-due (slots-of h) (now-of h) (cap-of h) (streams-in h) (omega arith) (omega arith) (λ t. rw (empty, none-seen) refl) .lazy (omega arith)
 
   -- .. and the slots with nothing
   pub empty-slots : (s : ℕ) → ids-at h s ≡ []
   unfolding slots in-order riders
-  empty-slots s = rw (empty, take-nil {A = Stream} (slots-of h)) refl
+  empty-slots s = rw (empty, none-seen, take-nil {A = Stream} (slots-of h)) refl

@@ -1,8 +1,8 @@
 -- Every call but open leaves a sound planner sound, said of what it holds.
-use mathlib.Core.Path.{_≡_, refl, sym, subst, subst⁻¹, _∙_}
+use mathlib.Core.Path.{_≡_, refl, subst, subst⁻¹}
 use mathlib.Core.Logic.{ite}
 use mathlib.Core.HLevel.{×-prop}
-use mathlib.Core.List.{List, List·Mem, Pairwise·map, decMem, map-map, map-congr-left, mem-map-of-mem}
+use mathlib.Core.List.{List, List·Mem, Pairwise·map, decMem}
 use Prim.Native.Nat.{ℕ, _+_, _≤_, _<_}
 use native.Mathlib.Bridge.{le-prop}
 use native.Mathlib.Nat.{le-trans}
@@ -19,7 +19,7 @@ use Rattle.rules.specs.Facts.Sums.{all-map}
 use Rattle.table.specs.Table.{stream-of, due-of, with-release}
 use Rattle.table.specs.Range.{RecordInRange, RecordsInRange, AreNear}
 use Rattle.table.specs.Changes.{sent}
-use Rattle.table.specs.Facts.Table.{all-streams}
+use Rattle.table.specs.Facts.Streams.{all-streams, seen, seen-changed}
 use Rattle.table.specs.Facts.RangeTests.{record-in-range-prop}
 use Rattle.table.specs.declared.Record.{Record}
 use Rattle.planner.specs.Content.{Content, slots-of, streams-in, now-of, cap-of, with-table, with-last}
@@ -128,8 +128,7 @@ module _ (h : Content) (sound : ContentSound h) where
   pub rounded-streams : (s : ℕ) → streams-in (rounded h s) ≡ after-round (slots-of h) s (streams-in h)
   unfolding after-round
   rounded-streams s =
-      map-map stream-of (sent-at h s) (h .table) ∙ map-congr-left {l = h .table} (λ r m. seen-sent-at h s r)
-      ∙ sym (map-map (passed (slots (slots-of h) s (streams-in h))) stream-of (h .table))
+      seen-changed (sent-at h s) (passed (slots (slots-of h) s (streams-in h))) (h .table) (seen-sent-at h s)
 
   -- after a round at its start it is sound
   pub rounded-sound : (s : ℕ) → IsStart h s → s ≤ 1_000_000_000 → ContentSound (rounded h s)
@@ -147,10 +146,10 @@ module _ (h : Content) (sound : ContentSound h) where
                   (sound .in-range .records .ascending);
             });
         near = record {
-          due-after = λ r m. kept .due-after (stream-of r) (seen r m);
+          due-after = λ r m. kept .due-after (stream-of r) (held r m);
           released = λ r m.
               round-near (slots-of h) (now-of h) (streams-in h) (content-ready h sound) (sound .in-range .setting .slots .0) (cap-of h) s s lazy (omega arith)
-              239 (start-from-now s lazy) near-now (stream-of r) (seen r m);
+              239 (start-from-now s lazy) near-now (stream-of r) (held r m);
         };
         demand-rule = subst⁻¹ (DemandRule (slots-of h)) (rounded-streams s) (kept .demand-rule);
         start-rule = subst⁻¹ (StartRule (slots-of h) (s + 1)) (rounded-streams s) (kept .start-rule);
@@ -159,8 +158,8 @@ module _ (h : Content) (sound : ContentSound h) where
       kept : IsReady (slots-of h) (s + 1) (after-round (slots-of h) s (streams-in h))
       kept = round-kept (slots-of h) (now-of h) (streams-in h) (content-ready h sound) (sound .in-range .setting .slots .0) (cap-of h) s s lazy (omega arith)
 
-      seen : (r : Record) → List·Mem r (rounded h s .table) → List·Mem (stream-of r) (after-round (slots-of h) s (streams-in h))
-      seen r m = subst (List·Mem (stream-of r)) (rounded-streams s) (mem-map-of-mem stream-of m)
+      held : (r : Record) → List·Mem r (rounded h s .table) → List·Mem (stream-of r) (after-round (slots-of h) s (streams-in h))
+      held r m = subst (List·Mem (stream-of r)) (rounded-streams s) (seen m)
 
       near-now : (x : Stream) → List·Mem x (streams-in h) → (x .period ≤ 239 + 1) × (x .release ≤ now-of h + 239)
       near-now =

@@ -11,6 +11,7 @@ use Rattle.basics.specs.Refusals.{answer-of, none, later}
 use Rattle.basics.specs.Facts.Refusals.{AllPass, AllNumbered, zero-all-pass, first-is-answer}
 use Rattle.rules.specs.Demand.{demand, future}
 use Rattle.table.specs.Range.{RecordsInRange}
+use Rattle.table.specs.Facts.Streams.{none-seen}
 use Rattle.queue.specs.Interface.{Entry, empty-queue}
 use Rattle.queue.specs.InterfaceLaws.{empty-has-none}
 use Rattle.queue.specs.declared.Queue.{Queue}
@@ -40,8 +41,8 @@ opened-sound s t numbers =
     record {
       in-range = in-range-by-numbers numbers (omega arith) (record { each = λ s m. absurd (not-mem-nil m); ascending = Pairwise·nil });
       near = record { due-after = λ s m. absurd (not-mem-nil m); released = λ s m. absurd (not-mem-nil m) };
-      demand-rule = λ u some. omega arith;
-      start-rule = λ u after. omega arith;
+      demand-rule = λ u some. rw none-seen (omega arith);
+      start-rule = λ u after. rw none-seen (omega arith);
     }
 
 -- the empty queue is all that a planner with these numbers and no stream wants

@@ -22,8 +22,8 @@ use Rattle.rules.specs.Facts.Slots.{IsChoice, in-order-perm}
 use Rattle.rules.specs.Facts.RoundKept.{served-iff, round-choice}
 use Rattle.table.specs.Table.{stream-of, due-of}
 use Rattle.table.specs.Changes.{HasId, Ascending, sent}
+use Rattle.table.specs.Facts.Streams.{numbers, seen}
 use Rattle.table.specs.Needs.{stepped, serve}
-use Rattle.table.specs.Facts.Records.{numbers}
 use Rattle.table.specs.declared.Record.{Record}
 use Rattle.queue.specs.Interface.{Entry, moved, InBounds}
 use Rattle.planner.specs.Content.{Content, slots-of, streams-in, now-of, cap-of}
@@ -155,13 +155,13 @@ module _ (h : Content) (sound : ContentSound h) (s : ℕ) (lazy : IsStart h s) w
       each : (r : Record) → List·Mem r (h .table) → InBoundsAt (sent-in (take k (ids-at h s)) r)
       each r mr =
           let range = sound .in-range .records .each r mr in
-          let seen = mem-map-of-mem stream-of mr in
-          let after = due-after-start (stream-of r) seen in
+          let held = seen mr in
+          let after = due-after-start (stream-of r) held in
           let near = sound .near .released r mr in
           let begun = start-from-now h sound s lazy in
           sent-in-elim (take k (ids-at h s)) InBoundsAt r
           (λ listed.
-          let served = served-iff (streams-in h) (slots (slots-of h) s (streams-in h)) table (choice .inside) (stream-of r) seen in
+          let served = served-iff (streams-in h) (slots (slots-of h) s (streams-in h)) table (choice .inside) (stream-of r) held in
           let slot = served .0 (mem-take k (ids-at h s) listed) in
           let rides = choice .ride (stream-of r) slot in
           ((omega arith, omega (arith, range .period, range .deadline, rides)), range .period .1))

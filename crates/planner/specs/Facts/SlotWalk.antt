@@ -13,6 +13,7 @@ use Rattle.rules.specs.Demand.{DueAfter}
 use Rattle.rules.specs.Slots.{riders, in-order, slots}
 use Rattle.rules.specs.Facts.Slots.{in-order-perm, rider-iff}
 use Rattle.rules.specs.Facts.SlotOrder.{line-in-order}
+use Rattle.table.specs.Facts.Streams.{seen, seen-from}
 use Rattle.table.specs.Table.{stream-of, as-streams}
 use Rattle.table.specs.declared.Record.{Record}
 use Rattle.queue.specs.Interface.{Entry}
@@ -43,7 +44,7 @@ module _ (s : ℕ) (rs : List Record) (es : List Entry) (table : IsTable (as-str
         ∥∥₁-elim (files e .0 there) List·Mem-prop
         (λ filed.
         let x = stream-of (filed .0) in
-        let held : List·Mem x (as-streams rs) = mem-map-of-mem stream-of (filed .1) in
+        let held : List·Mem x (as-streams rs) = seen (filed .1) in
         let by-start : x .release ≤ s = subst (λ (a : Entry). a .release ≤ s) (filed .2) early in
         let after = later x held in
         let rides : List·Mem x (riders s (as-streams rs)) = rider-iff s (as-streams rs) x .1 (held, (omega arith, omega arith)) in
@@ -55,7 +56,7 @@ module _ (s : ℕ) (rs : List Record) (es : List Entry) (table : IsTable (as-str
         ∥∥₁-elim (mem-map .0 m) List·Mem-prop
         (λ w.
         let rides = rider-iff s (as-streams rs) (w .0) .0 (Perm·mem-iff (in-order-perm (riders s (as-streams rs))) .0 (w .1)) in
-        ∥∥₁-elim (mem-map .0 (rides .0)) List·Mem-prop
+        ∥∥₁-elim (seen-from (rides .0)) List·Mem-prop
         (λ v.
         let is : e ≡ entry-of (v .0) = sym (w .2) ∙ ap seen-entry (sym (v .2)) in
         let begun : w .0 .release ≤ s = omega (arith, rides .1 .0) in

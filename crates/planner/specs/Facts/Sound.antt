@@ -8,7 +8,7 @@ use Rattle.rules.specs.Facts.Sums.{well-formed-prop, start-rule-fits}
 use Rattle.rules.specs.Ready.{AllWellFormed, Fits, IsBusy, IsReady}
 use Rattle.rules.specs.Facts.Busy.{frame-busy-under-rule}
 use Rattle.rules.specs.Facts.LazyStart.{lazy-exists}
-use Rattle.table.specs.Facts.Table.{all-streams}
+use Rattle.table.specs.Facts.Streams.{all-streams}
 use Rattle.planner.specs.Content.{Content, content, slots-of, streams-in, now-of, cap-of}
 use Rattle.planner.specs.Sound.{ContentSound, Sound}
 use Rattle.planner.specs.Facts.Table.{ascending-is-table}

@@ -21,7 +21,7 @@ use Rattle.rules.specs.Facts.CountBy.{count-by-demand, count-by-future, count-b
 use Rattle.rules.specs.Facts.Lists.{filter-halves}
 use Rattle.table.specs.Table.{stream-of, as-streams, due-of}
 use Rattle.table.specs.Changes.{HasId, Ascending, put-by-id, without-id}
-use Rattle.table.specs.Facts.Records.{numbers, as-streams-put, as-streams-without}
+use Rattle.table.specs.Facts.Streams.{numbers, as-streams-put, as-streams-without}
 use Rattle.table.specs.declared.Record.{Record}
 
 -- the table with a stream has that stream and those it had

@@ -17,7 +17,8 @@ use Rattle.table.specs.Table.{records-of, streams-of, record-at}
 use Rattle.table.specs.Range.{RecordInRange}
 use Rattle.table.specs.Lengths.{CanNarrow, IsNarrow, CanTestDemand, IsBusyLength}
 use Rattle.table.specs.Sums.{HasPeriods, AreSums, CanCarry}
-use Rattle.table.specs.Facts.Table.{record-at-mem, all-streams}
+use Rattle.table.specs.Facts.Table.{record-at-mem}
+use Rattle.table.specs.Facts.Streams.{all-streams}
 use Rattle.table.specs.Facts.Lengths.{sums-begin}
 use Rattle.table.specs.declared.Table.{Table}
 use Rattle.table.specs.declared.lengths.Sums.{Sums}

@@ -20,7 +20,8 @@ use Rattle.rules.specs.Facts.CountBy.{count-by-one-more, count-by-none, count-b
 use Rattle.table.specs.Table.{stream-of, as-streams, records-of, streams-of, stream-at}
 use Rattle.table.specs.Lengths.{hits, after-hit, hits-before, IsWalk, CanAdvance, IsAdvance}
 use Rattle.table.specs.Sums.{next-after, HasPeriods, AreNext, AreSums}
-use Rattle.table.specs.Facts.Table.{row-at, one-row-more, all-records, all-streams, one-place-more}
+use Rattle.table.specs.Facts.Table.{row-at, one-row-more, all-records, one-place-more}
+use Rattle.table.specs.Facts.Streams.{none-seen, all-streams}
 use Rattle.table.specs.declared.Record.{Record}
 use Rattle.table.specs.declared.Table.{Table}
 use Rattle.table.specs.declared.lengths.Sums.{Sums}
@@ -111,7 +112,7 @@ count-step : (first : Stream → ℕ) (rows : List Record) (times : List ℕ) (t
     → ((k : ℕ) → k < n → getD times k 0 ≡ next-after (row-at rows k .period) (first (stream-of (row-at rows k))) t)
     → count-by first (as-streams (take n rows)) (t + 1) ≡ count-by first (as-streams (take n rows)) t + hits-before times (t + 1) n
 unfolding count-by hits-before
-count-step first rows times t zero within periods walk = omega arith
+count-step first rows times t zero within periods walk = rw none-seen (omega arith)
 count-step first rows times t (suc n) within periods walk =
     let s = stream-of (row-at rows n) in
     let added = count-by-one-more first (as-streams (take n rows)) s in

@@ -15,7 +15,8 @@ use Rattle.rules.specs.Ready.{count-by, AllWellFormed}
 use Rattle.rules.specs.Facts.Sums.{first-of, rest-of, period-positive, future-counts, future-mono}
 use Rattle.table.specs.Table.{due-of, records-of, streams-of, record-at, stream-at}
 use Rattle.table.specs.Lengths.{CanFindStart, IsNextStart, CanNarrow, IsNarrow, IsWalk, IsAdvance}
-use Rattle.table.specs.Facts.Table.{record-at-mem, stream-at-mem, all-records, all-streams}
+use Rattle.table.specs.Facts.Table.{record-at-mem, stream-at-mem, all-records}
+use Rattle.table.specs.Facts.Streams.{none-seen, all-streams}
 use Rattle.table.specs.Facts.Lengths.{walk-begins, walk-goes-on}
 use Rattle.table.specs.Start.{IsLeastOf, due-from, CanLookFrom}
 use Rattle.table.specs.Facts.Start.{Looked, looked-more, looked-all, found-none, nothing-due}
@@ -24,7 +25,7 @@ use Rattle.table.specs.declared.Column.the-variants.{Period, Due}
 
 no-streams : (table : Table) → table .count ≡ 0 → (t : ℕ) → future (streams-of table) t ≡ 0
 unfolding future
-no-streams table none t = rw none refl
+no-streams table none t = rw (none, none-seen) refl
 
 -- an empty table: the next start is the cap
 pub empty-table : {b x cap T : ℕ} {table : Table} → CanFindStart b x cap T table → table .count ≡ 0 → IsNextStart b x cap (streams-of table) cap

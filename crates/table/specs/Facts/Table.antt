@@ -1,8 +1,7 @@
 -- The records of a table and their places: what holds at every place holds of every record, and the other way round.
--- What holds of all records as the rules see them holds of all streams.
-use mathlib.Core.Path.{_≡_, refl, sym, subst, _∙_}
+use mathlib.Core.Path.{_≡_, sym, subst, _∙_}
 use mathlib.Core.Logic.{∥∥₁-elim}
-use mathlib.Core.List.{List, [], _∷_, _++_, List·Mem, List·Memᴰ, List·Memᴰ·head, List·Memᴰ·tail, exists-of-mem-map, mem-map-of-mem, map-append}
+use mathlib.Core.List.{List, [], _∷_, _++_, List·Mem, List·Memᴰ, List·Memᴰ·head, List·Memᴰ·tail}
 use mathlib.Core.List.{Pairwise·nil, Pairwise·cons, Pairwise·of-cons, rel-of-pairwise-cons}
 use Prim.Native.Nat.{ℕ, zero, suc, _+_, _≤_, _<_}
 use native.Mathlib.Nat.{lt-irrefl}
@@ -12,8 +11,8 @@ use lib.ListN.{take, getD, set, length}
 use lib.Seq.{take-suc, getD-take, length-take-le, getD-set-same, getD-set-other}
 use borrow.Author.Count.{below-more}
 use Rattle.basics.specs.Facts.Members.{getD-mem}
-use Rattle.rules.specs.Streams.{Stream}
 use Rattle.table.specs.Table.{stream-of, as-streams, records-of, streams-of, record-at, stream-at, no-record}
+use Rattle.table.specs.Facts.Streams.{one-record-more, seen}
 use Rattle.table.specs.Changes.{Ascending}
 use Rattle.table.specs.declared.Record.{Record}
 use Rattle.table.specs.declared.Table.{Table}
@@ -38,7 +37,7 @@ all-rows P prop rows n all r m = ∥∥₁-elim m (prop r) (λ place. go n rows 
 -- one row more is one stream more, at the end
 pub one-row-more : (rows : List Record) (n : ℕ) → n < length rows
     → as-streams (take (suc n) rows) ≡ as-streams (take n rows) ++ (stream-of (row-at rows n) ∷ [])
-one-row-more rows n within = rw (take-suc rows n no-record within, map-append stream-of (take n rows) (row-at rows n ∷ [])) refl
+one-row-more rows n within = rw (take-suc rows n no-record within) (one-record-more (take n rows) (row-at rows n))
 
 -- the record at a place below the count is one of the table's ..
 pub record-at-mem : (table : Table) → table .count ≤ length (table .streams) → (k : ℕ) → k < table .count
@@ -48,17 +47,12 @@ record-at-mem table within k low = row-mem (table .streams) (table .count) k wit
 -- .. and the stream there is one of those that the rules see
 pub stream-at-mem : (table : Table) → table .count ≤ length (table .streams) → (k : ℕ) → k < table .count
     → List·Mem (stream-at table k) (streams-of table)
-stream-at-mem table within k low = mem-map-of-mem stream-of (record-at-mem table within k low)
+stream-at-mem table within k low = seen (record-at-mem table within k low)
 
 -- what holds of the record at every place below the count holds of every record
 pub all-records : (P : Record → Type 0) → ((r : Record) → IsProp (P r)) → (table : Table) → ((k : ℕ) → k < table .count → P (record-at table k))
     → (r : Record) → List·Mem r (records-of table) → P r
 all-records P prop table all = all-rows P prop (table .streams) (table .count) all
-
--- what holds of every record as the rules see it holds of every stream
-pub all-streams : (P : Stream → Type 0) → ((s : Stream) → IsProp (P s)) → (rs : List Record) → ((r : Record) → List·Mem r rs → P (stream-of r))
-    → (s : Stream) → List·Mem s (as-streams rs) → P s
-all-streams P prop rs all s m = ∥∥₁-elim (exists-of-mem-map m) (prop s) (λ seen. subst P (seen .2) (all (seen .0) (seen .1)))
 
 -- ids that rise from place to place rise along the records, and the other way round
 rows-ascend-at : (rows : List Record) (n j k : ℕ) → n ≤ length rows → Ascending (take n rows) → j < k → k < n → row-at rows j .id < row-at rows k .id

@@ -2,6 +2,7 @@
 pub use lines::Reached;
 pub use lines::run_last_in_range;
 pub use lines::run_lines_in_range;
+pub use print::ROOM;
 pub use script::beginning;
 pub use script::run_script;
 pub use step::Step;

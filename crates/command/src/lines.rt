@@ -3,6 +3,7 @@ ghost use Rattle.command.specs.Lines.{IsLineEnd};
 ghost use Rattle.command.specs.Runs.{CanRun, HasRun, HasRunLast};
 ghost use Prim.Native.Nat.{_≤_};
 ghost use lib.ListN.{length};
+use super::print::ROOM;
 use super::step::step_in_range;
 use planner::Planner;
 
@@ -43,7 +44,7 @@ pub fn run_lines_in_range(start: Reached, bytes: &[u8], out: &mut [u8]) -> Reach
         if to == bytes.len() {
             break;
         }
-        if out.len() - end < 1430 {
+        if out.len() - end < ROOM {
             break;
         }
         number += 1;
@@ -68,7 +69,7 @@ pub fn run_last_in_range(start: Reached, bytes: &[u8], out: &mut [u8]) -> Reache
     if start.from == bytes.len() {
         return start;
     }
-    if out.len() - start.end < 1430 {
+    if out.len() - start.end < ROOM {
         return start;
     }
     let planner = start.planner;

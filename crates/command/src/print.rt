@@ -4,7 +4,10 @@ ghost use mathlib.Core.List.{[], _∷_};
 ghost use Prim.Native.Nat.{_+_, _≤_, _<_};
 ghost use lib.ListN.{length, take};
 ghost use Rattle.command.specs.Text.{IsNumeral, IsFields};
-ghost use Rattle.command.specs.Puts.{IsPut, IsLine};
+ghost use Rattle.command.specs.Puts.{IsPut, IsLine, room};
+
+// The most bytes that the answer to a line has, its ends counted.
+pub const ROOM: usize = 1430;
 
 // The numbers of a line: the first `count` values.
 pub struct Numbers {
@@ -44,9 +47,9 @@ pub fn put_field_in_range(out: &mut [u8], at: usize, value: u64) -> usize
 
 // A line of a letter and numbers, and its end.
 pub fn put_line_in_range(out: &mut [u8], at: usize, letter: u8, numbers: Numbers) -> usize
-    requires { ⌜ (numbers .count ≤ 68) × (at + 1430 ≤ length (now out)) ⌝ }
+    requires { ⌜ (numbers .count ≤ 68) × (at + room ≤ length (now out)) ⌝ }
     ensures { λ r. ⌜ IsPut (IsLine letter (take (numbers .count) (numbers .values))) (now (out .entry)) (now (out .exit)) at r ⌝ }
-    ensures { λ r. ⌜ r ≤ at + 1430 ⌝ }
+    ensures { λ r. ⌜ r ≤ at + room ⌝ }
 {
     let values = numbers.values;
     let mut end = put_byte_in_range(out, at, letter);

@@ -2,6 +2,7 @@
 ghost use Prim.Native.Nat.{_+_, _≤_};
 ghost use lib.ListN.{length};
 ghost use Rattle.command.specs.Step.{IsStep};
+ghost use Rattle.command.specs.Puts.{room};
 use super::answers::answer;
 use super::print::put_line_in_range;
 use super::reading::parse;
@@ -15,7 +16,7 @@ pub struct Step {
 
 // What a line says is done, and the answer is written into the buffer from `at` on. `number` is that of the line, from 1.
 pub fn step_in_range(planner: Planner, number: u64, line: &[u8], out: &mut [u8], at: usize) -> Step
-    requires { ⌜ at + 1430 ≤ length (now out) ⌝ }
+    requires { ⌜ at + room ≤ length (now out) ⌝ }
     ensures { λ r. ⌜ IsStep planner number (now (line .entry)) (now (out .entry)) (now (out .exit)) at r ⌝ }
 {
     let command = parse(line);

@@ -5,6 +5,7 @@ use mathlib.Core.Logic.{_⊎_}
 use mathlib.Core.List.{List, _++_}
 use Prim.Native.Nat.{ℕ, _+_, _-_, _≤_, _<_, min}
 use lib.ListN.{length, take, drop}
+use Rattle.command.specs.Puts.{room}
 use Rattle.command.specs.Script.{IsBeginning}
 use Rattle.console.specs.Transcript.{HasNoEnd, ToldAll}
 use Rattle.console.specs.declared.Session.{Session}
@@ -29,7 +30,7 @@ pub record CanAnswer (s : Session) (input out : List ℕ) : Type 0 where
 -- the next answer.
 pub record HasAnswered (s : Session) (input out : List ℕ) (r : Session) : Type 0 where
   pub told : (read written : List ℕ) → HasTold read written s input → HasTold read (written ++ take (r .reached .end) out) r input
-  pub all-or-full : HasNoEnd (at-hand r input) ⊎ (65536 < r .reached .end + 1430)
+  pub all-or-full : HasNoEnd (at-hand r input) ⊎ (65536 < r .reached .end + room)
   pub bounds : InBounds r
   pub end : r .reached .end ≤ 65536
   pub number : r .reached .number ≤ s .reached .number + 65536

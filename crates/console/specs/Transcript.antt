@@ -6,25 +6,12 @@ use Prim.Native.Nat.{ℕ, _+_, _≤_}
 use lib.ListN.{length, take}
 use Rattle.planner.specs.Open.{zeros, IsFresh}
 use Rattle.planner.specs.declared.Planner.{Planner}
-use Rattle.command.specs.Commands.{Says}
-use Rattle.command.specs.Answers.{IsAnswered}
-use Rattle.command.specs.Puts.{IsLine}
+use Rattle.command.specs.Step.{IsAnswer}
 use Rattle.command.specs.Lines.{NoEnd}
-use Rattle.command.specs.declared.Command.{Command}
-use Rattle.command.specs.declared.answers.Answered.{Answered}
 
 -- Annex 11.1: none of the bytes ends a line.
 abbrev pub HasNoEnd : List ℕ → Type 0
 HasNoEnd bytes = NoEnd bytes 0 (length bytes)
-
--- Annex 11.11: one line: what it says, what the planner answers to it, the planner that this leaves, and the bytes of the answer with its end.
-pub record IsAnswer (p : Planner) (number : ℕ) (line bytes : List ℕ) (after : Planner) : Type 0 where
-  pub command : Command
-  pub says : Says line command
-  pub answered : Answered
-  pub by-contract : IsAnswered p number command answered
-  pub planner : after ≡ answered .planner
-  pub written : IsLine (answered .letter) (take (answered .numbers .count) (answered .numbers .values)) bytes
 
 -- Annex 11.3, 11.11, 11.22: each line ends in byte 10, has the next number, from 1 on, gets the planner that the one before left, and its answer
 -- follows theirs.

@@ -5,6 +5,7 @@ ghost use Prim.Native.Nat.{_≤_, _<_};
 ghost use lib.ListN.{length};
 ghost use Rattle.console.specs.Session.{CanKeep, CanRefill, IsTurned};
 ghost use Rattle.console.specs.Needs.{IsBegun, CanAnswer, HasAnswered, CanAnswerLast, HasAnsweredLast, handed-over, IsMoved, IsKept, IsRefilled};
+use command::ROOM;
 use command::Reached;
 
 mod system;
@@ -142,7 +143,7 @@ fn turn_in_range(s: Session, input: &mut [u8], out: &mut [u8]) -> Turn
     let wrote = reached.end;
     let is_written = system::write_answers(&out[..wrote], reached.number);
     let session = handed_over(answered);
-    if is_written && 1430 <= out.len() - wrote {
+    if is_written && ROOM <= out.len() - wrote {
         return refilled_in_range(session, input, wrote);
     }
     Turn {

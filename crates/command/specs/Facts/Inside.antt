@@ -6,7 +6,7 @@ use native.Mathlib.Decide.{decLt, ℕ-discrete}
 use native.Mathlib.Omega.{arith}
 use lib.ListN.{length, take, drop, length-append}
 use lib.Seq.{length-take-le, drop-at, drop-drop}
-use Rattle.command.specs.Puts.{IsPut}
+use Rattle.command.specs.Puts.{room, IsPut}
 use Rattle.command.specs.Runs.{Reaches, HasRunLast}
 use Rattle.command.specs.Runs.Reaches.{none, one-more}
 use Rattle.command.specs.Script.{IsScript, StaysInside}
@@ -40,28 +40,28 @@ put-inside {out = out} {mid} {at = at} {r} inside put within =
 -- a run keeps the buffer's length ..
 pub run-length : {bytes out w : List ℕ} {s t : Reached} → Reaches bytes s out t w → length w ≡ length out
 run-length none = refl
-run-length (one-more {t} run to line-end inside room after r is) =
+run-length (one-more {t} run to line-end inside free after r is) =
     let so-far = run-length run in
-    put-length (is .written) (omega (arith, is .room)) ∙ so-far
+    put-length (is .written) (omega (arith, is .in-room)) ∙ so-far
 
 -- .. and from inside the buffer on it stays there
 run-inside : {bytes out w : List ℕ} {s t : Reached} → s .end ≤ length out → Reaches bytes s out t w → StaysInside out w (t .end)
 run-inside begun none = record { within = begun; same-length = refl; behind = refl }
-run-inside begun (one-more run to line-end inside room after r is) = put-inside (run-inside begun run) (is .written) (omega (arith, is .room))
+run-inside begun (one-more run to line-end inside free after r is) = put-inside (run-inside begun run) (is .written) (omega (arith, is .in-room))
 
 -- and so does what is left behind the last line end
 last-inside : {bytes out w after : List ℕ} {t r : Reached} → StaysInside out w (t .end) → HasRunLast t bytes w after r → StaysInside out after (r .end)
-last-inside {bytes} {out} {w} {after} {t} {r} inside last = go (ℕ-discrete (t .from) (length bytes)) (decLt (length w) (t .end + 1430))
+last-inside {bytes} {out} {w} {after} {t} {r} inside last = go (ℕ-discrete (t .from) (length bytes)) (decLt (length w) (t .end + room))
   where
     unmoved : (r ≡ t) × (after ≡ w) → StaysInside out after (r .end)
     unmoved (same, untouched) = rw (same, untouched) inside
 
-    go : Dec (t .from ≡ length bytes) → Dec (length w < t .end + 1430) → StaysInside out after (r .end)
+    go : Dec (t .from ≡ length bytes) → Dec (length w < t .end + room) → StaysInside out after (r .end)
     go (yes done) _ = unmoved (last .nothing-left done)
     go (no some) (yes full) = unmoved (last .no-room full)
     go (no some) (no free) =
         let (step, (is, r-is)) = last .last-line some (omega arith) in
-        rw r-is (put-inside inside (is .written) (omega (arith, is .room, inside .same-length)))
+        rw r-is (put-inside inside (is .written) (omega (arith, is .in-room, inside .same-length)))
 
 -- Annex 11.24, 12.1: what a script writes stays inside the lent buffer
 pub script-inside : {script before after : List ℕ} {r : ℕ} → IsScript script before after r → StaysInside before after r

@@ -1,5 +1,5 @@
 -- What is put into a buffer piece by piece, and what numerals, fields and lines are made of.
-use mathlib.Core.Path.{_≡_, refl, sym, ap, subst, _∙_}
+use mathlib.Core.Path.{_≡_, refl, sym, ap, subst, subst⁻¹, _∙_}
 use mathlib.Core.List.{List, [], _∷_, _++_, append-nil, append-assoc}
 use Prim.Native.Nat.{ℕ, zero, suc, _+_, _*_, _/_, _%_, _^_, _≤_, _<_}
 use native.Mathlib.Nat.{add-zero, mod-lt}
@@ -10,7 +10,7 @@ use lib.Seq.{length-take-le, take-suc, set-split, take-at, drop-at, drop-drop}
 use Rattle.command.specs.Text.{IsNumeral, IsFields, IsWritten}
 use Rattle.command.specs.Text.IsNumeral.{digit, further}
 use Rattle.command.specs.Text.IsFields.{none, more}
-use Rattle.command.specs.Puts.{IsPut, IsLine}
+use Rattle.command.specs.Puts.{IsPut, IsLine, AreLines, no-lines, line-then}
 
 -- A byte set at a place.
 pub put-byte : (l : List ℕ) (at b : ℕ) → at < length l → IsPut (λ bytes. bytes ≡ b ∷ []) l (set l at b) at (at + 1)
@@ -162,3 +162,11 @@ put-written {before = before} {at = at} {r = r} put inside =
     let front = take at before ++ put .bytes in
     let long : length front ≡ r = length-append (take at before) (put .bytes) ∙ omega (arith, length-take-le at before inside, put .ends) in
     ap (take r) (put .content ∙ sym (append-assoc (take at before) (put .bytes) (drop r before))) ∙ take-at front (drop r before) r long
+
+-- one line is lines
+pub one-line : {letter : ℕ} {ns bytes : List ℕ} → IsLine letter ns bytes → AreLines ((letter, ns) ∷ []) bytes
+one-line {letter} {ns} {bytes} is = subst (AreLines ((letter, ns) ∷ [])) (append-nil bytes) (line-then is no-lines)
+
+-- and lines that are one are it
+pub only-line : {letter : ℕ} {ns bytes : List ℕ} → AreLines ((letter, ns) ∷ []) bytes → IsLine letter ns bytes
+only-line {letter} {ns} (line-then {bytes} is no-lines) = subst⁻¹ (IsLine letter ns) (append-nil bytes) is

@@ -9,6 +9,7 @@ use lib.ListN.{length, drop, length-drop}
 use lib.Seq.{take-all}
 use Rattle.command.specs.Lines.{IsLineEnd}
 use Rattle.command.specs.Step.{IsStep}
+use Rattle.command.specs.Puts.{room}
 use Rattle.command.specs.Facts.Puts.{put-length}
 use Rattle.command.specs.declared.lines.Reached.{Reached}
 use Rattle.command.specs.declared.step.Step.{Step}
@@ -65,7 +66,7 @@ module _ {s : Reached} {bytes before : List ℕ} (can : CanRun s bytes before) w
           }
 
       -- where fewer than 1,430 places of the buffer are left, the run is done
-      pub buffer-full : length after < t .end + 1430 → HasRun s bytes before after t
+      pub buffer-full : length after < t .end + room → HasRun s bytes before after t
       buffer-full full =
           record {
             reaches = running .reaches;
@@ -76,7 +77,7 @@ module _ {s : Reached} {bytes before : List ℕ} (can : CanRun s bytes before) w
           }
 
       -- one line more
-      pub one-more-run : {later : List ℕ} {r : Step} → (to ≡ length bytes → ⊥) → t .end + 1430 ≤ length after
+      pub one-more-run : {later : List ℕ} {r : Step} → (to ≡ length bytes → ⊥) → t .end + room ≤ length after
           → IsStep (t .planner) (t .number + 1) (part-of bytes (t .from) to) after later (t .end) r
           → Running s bytes before later (record { planner = r .planner; number = t .number + 1; from = to + 1; end = r .end })
       one-more-run {later} {r} inside room is =
@@ -84,9 +85,9 @@ module _ {s : Reached} {bytes before : List ℕ} (can : CanRun s bytes before) w
           record {
             reaches = one-more (running .reaches) to line-end low (omega (arith, room, running .long)) later r is;
             in-input = omega arith;
-            in-buffer = omega (arith, is .room, running .long, room);
+            in-buffer = omega (arith, is .in-room, running .long, room);
             counts = omega (arith, running .counts, line-end .after);
-            long = put-length (is .written) (omega (arith, is .room, room)) ∙ running .long;
+            long = put-length (is .written) (omega (arith, is .in-room, room)) ∙ running .long;
           }
         where
           below : (a b : ℕ) → a ≤ b → (a ≡ b → ⊥) → a < b
@@ -104,7 +105,7 @@ module _ {s : Reached} {bytes before : List ℕ} (can : CanRun s bytes before) w
       }
 
   -- .. and likewise with fewer than 1,430 places of the buffer left
-  pub last-waits : length before < s .end + 1430 → HasRunLast s bytes before before s
+  pub last-waits : length before < s .end + room → HasRunLast s bytes before before s
   last-waits full =
       record {
         nothing-left = λ _. (refl, refl);
@@ -114,7 +115,7 @@ module _ {s : Reached} {bytes before : List ℕ} (can : CanRun s bytes before) w
       }
 
   -- all bytes from a place on are the part up to the end
-  pub last-answered : {after : List ℕ} {r : Step} → (s .from ≡ length bytes → ⊥) → s .end + 1430 ≤ length before
+  pub last-answered : {after : List ℕ} {r : Step} → (s .from ≡ length bytes → ⊥) → s .end + room ≤ length before
       → IsStep (s .planner) (s .number + 1) (part-of bytes (s .from) (length bytes)) before after (s .end) r
       → HasRunLast s bytes before after (record { planner = r .planner; number = s .number + 1; from = length bytes; end = r .end })
   last-answered {after} {r} some room is =
@@ -122,7 +123,7 @@ module _ {s : Reached} {bytes before : List ℕ} (can : CanRun s bytes before) w
         nothing-left = λ done. absurd (some done);
         no-room = λ full. absurd (lt-irrefl (length before) (omega (arith, full, room)));
         last-line = λ _ _. (r, (subst (λ (line : List ℕ). IsStep (s .planner) (s .number + 1) line before after (s .end) r) whole is, refl));
-        in-buffer = omega (arith, is .room, room);
+        in-buffer = omega (arith, is .in-room, room);
       }
     where
       whole : part-of bytes (s .from) (length bytes) ≡ drop (s .from) bytes

@@ -1,5 +1,5 @@
 -- Twins answer a line with the same text.
-use mathlib.Core.Path.{_≡_, refl, sym, ap, subst, _∙_}
+use mathlib.Core.Path.{_≡_, refl, sym, ap, subst, subst⁻¹, _∙_}
 use mathlib.Core.List.{List, [], _∷_, _++_}
 use Prim.Native.Nat.{ℕ, _+_}
 use native.Mathlib.Decide.{ℕ-discrete}
@@ -11,30 +11,26 @@ use Rattle.alike.specs.Twins.{AreTwins}
 use Rattle.alike.specs.Facts.Twins.{equal-are-twins, still-twins, same-opening, change-answers, change-twins, add-rest, remove-rest, IsSameRound, same-round}
 use Rattle.command.specs.Commands.{Says}
 use Rattle.command.specs.Answers.{Gives, IsAnswered}
-use Rattle.command.specs.Step.{IsStep}
-use Rattle.command.specs.Puts.{IsLine}
-use Rattle.command.specs.Facts.Unique.{says-one, line-text}
+use Rattle.command.specs.Step.{lines-of, IsAnswer, IsStep}
+use Rattle.command.specs.Puts.{AreLines}
+use Rattle.command.specs.Facts.Unique.{says-one, lines-text}
 use Rattle.command.specs.declared.Command.{Command}
 use Rattle.command.specs.declared.Command.the-variants.{Open, Add, Remove, Round, Malformed}
 use Rattle.command.specs.declared.answers.Answered.{Answered}
 use Rattle.command.specs.declared.step.Step.{Step}
 
--- The numbers of an answer.
-abbrev pub numbers-of : Answered → List ℕ
-numbers-of r = take (r .numbers .count) (r .numbers .values)
-
--- Two answers have the same letter and numbers, and leave twins.
+-- Two answers have the same lines, letter by letter and number by number, and leave twins.
 pub record IsSameAnswer (r s : Answered) : Type 0 where
-  pub letter : r .letter ≡ s .letter
-  pub numbers : numbers-of r ≡ numbers-of s
+  pub lines : lines-of r ≡ lines-of s
   pub twins : AreTwins (r .planner) (s .planner)
 
 -- what is given of twins, of a letter and the same numbers
 same-given : {p q : Planner} {l : ℕ} {ns ms : List ℕ} {r s : Answered} → AreTwins p q → ns ≡ ms → Gives p l ns r → Gives q l ms s → IsSameAnswer r s
 same-given twins same given given′ =
+    let letter = given .letter ∙ sym (given′ .letter) in
+    let numbers = given .numbers ∙ same ∙ sym (given′ .numbers) in
     record {
-      letter = given .letter ∙ sym (given′ .letter);
-      numbers = given .numbers ∙ same ∙ sym (given′ .numbers);
+      lines = λ i. (letter i, numbers i) ∷ [];
       twins = still-twins twins (given .planner) (given′ .planner);
     }
 
@@ -67,13 +63,23 @@ same-answered twins number Malformed r s is is′ = same-given twins refl is is�
 
 -- Annex 12.25: twins answer a line with the same bytes, and twins are left
 pub same-text : {p q : Planner} → AreTwins p q → (number : ℕ) (line : List ℕ) (c d : Command) (r s : Answered) → Says line c → Says line d
-    → IsAnswered p number c r → IsAnswered q number d s → (one other : List ℕ) → IsLine (r .letter) (numbers-of r) one → IsLine (s .letter) (numbers-of s) other
+    → IsAnswered p number c r → IsAnswered q number d s → (one other : List ℕ) → AreLines (lines-of r) one → AreLines (lines-of s) other
     → (one ≡ other) × AreTwins (r .planner) (s .planner)
 same-text {p} {q} twins number line c d r s says says′ is is′ one other text text′ =
     let command = says-one line d c says′ says in
     let same = same-answered twins number c r s is (subst (λ (x : Command). IsAnswered q number x s) command is′) in
-    let text″ : IsLine (r .letter) (numbers-of r) other = rw (same .letter, same .numbers) text′ in
-    (line-text text text″, same .twins)
+    let text″ = subst⁻¹ (λ (lines : List (ℕ × List ℕ)). AreLines lines other) (same .lines) text′ in
+    (lines-text text text″, same .twins)
+
+-- Annex 12.25: so that the answer to a line is the same
+pub same-answer : {p p′ after after′ : Planner} {number number′ : ℕ} {line line′ bytes bytes′ : List ℕ} → AreTwins p p′ → number ≡ number′ → line ≡ line′
+    → IsAnswer p number line bytes after → IsAnswer p′ number′ line′ bytes′ after′ → (bytes ≡ bytes′) × AreTwins after after′
+same-answer {p′ = p′} {number = number} {line = line} {bytes = bytes} {bytes′ = bytes′} twins numbers lines is is′ =
+    let says′ = subst (λ (l : List ℕ). Says l (is′ .command)) (sym lines) (is′ .says) in
+    let by′ = subst (λ (n : ℕ). IsAnswered p′ n (is′ .command) (is′ .answered)) (sym numbers) (is′ .by-contract) in
+    let (text, left) = same-text twins number line (is .command) (is′ .command) (is .answered) (is′ .answered) (is .says) says′ (is .by-contract) by′
+    bytes bytes′ (is .written) (is′ .written) in
+    (text, still-twins left (is .planner) (is′ .planner))
 
 -- Two steps, into buffers that may differ, end at the same place with the same bytes put, and leave twins.
 pub record IsSameStep {p p′ : Planner} {number number′ : ℕ} {line line′ before before′ after after′ : List ℕ} {at at′ : ℕ} {r r′ : Step}
@@ -87,16 +93,13 @@ pub record IsSameStep {p p′ : Planner} {number number′ : ℕ} {line line′ 
 pub same-step : {p p′ : Planner} {number number′ : ℕ} {line line′ before before′ after after′ : List ℕ} {at at′ : ℕ} {r r′ : Step}
     → AreTwins p p′ → number ≡ number′ → line ≡ line′ → at ≡ at′
     → (is : IsStep p number line before after at r) (is′ : IsStep p′ number′ line′ before′ after′ at′ r′) → IsSameStep is is′
-same-step {p} {p′} {number} {number′} {line} {line′} {before} {before′} {after} {after′} {at} {at′} {r} {r′} twins numbers lines places is is′ =
-    let says′ = subst (λ (l : List ℕ). Says l (is′ .command)) (sym lines) (is′ .says) in
-    let by′ = subst (λ (n : ℕ). IsAnswered p′ n (is′ .command) (is′ .answered)) (sym numbers) (is′ .by-contract) in
-    let (bytes, left) = same-text twins number line (is .command) (is′ .command) (is .answered) (is′ .answered) (is .says) says′ (is .by-contract) by′
-    (is .written .bytes) (is′ .written .bytes) (is .written .property) (is′ .written .property) in
+same-step {r = r} {r′ = r′} twins numbers lines places is is′ =
+    let (bytes, left) = same-answer twins numbers lines (is .written .property) (is′ .written .property) in
     let end : r .end ≡ r′ .end = is .written .ends ∙ (λ i. places i + length (bytes i)) ∙ sym (is′ .written .ends) in
     record {
       bytes = bytes;
       end = end;
       buffer = λ same.
           is .written .content ∙ (λ i. take (places i) (same i) ++ (bytes i ++ drop (end i) (same i))) ∙ sym (is′ .written .content);
-      twins = still-twins left (is .planner) (is′ .planner);
+      twins = left;
     }

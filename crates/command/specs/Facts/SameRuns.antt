@@ -10,6 +10,7 @@ use lib.ListN.{length, take, drop}
 use Rattle.alike.specs.Twins.{AreTwins}
 use Rattle.alike.specs.Facts.Twins.{equal-are-twins, twins-back}
 use Rattle.command.specs.Lines.{IsLineEnd}
+use Rattle.command.specs.Puts.{room}
 use Rattle.command.specs.Step.{IsStep}
 use Rattle.command.specs.Runs.{part-of, Reaches, HasRun, HasRunLast}
 use Rattle.command.specs.Runs.Reaches.{none, one-more}
@@ -52,7 +53,7 @@ level-back level =
 -- line numbers grow in a run
 number-grows : {bytes out w : List ℕ} {s t : Reached} → Reaches bytes s out t w → s .number ≤ t .number
 number-grows {s = s} none = omega arith
-number-grows (one-more run to line-end inside room after r is) = omega (arith, number-grows run)
+number-grows (one-more run to line-end inside free after r is) = omega (arith, number-grows run)
 
 -- one step more, from level runs
 step-level : {out out′ : List ℕ} {t t′ : Reached} {w w′ : List ℕ} → AreLevel out out′ t t′ w w′ → {line line′ : List ℕ} → line ≡ line′
@@ -71,12 +72,12 @@ step-level level lines inside inside′ from from′ places after after′ r r�
       buffer = λ same. step .buffer (level .buffer same);
     }
 
-module _ {bytes out out′ : List ℕ} {s s′ : Reached} (begin : AreLevel out out′ s s′ out out′) (room : length out ≡ length out′) where
+module _ {bytes out out′ : List ℕ} {s s′ : Reached} (begin : AreLevel out out′ s s′ out out′) (long : length out ≡ length out′) where
   -- after equally many lines two runs are level
   runs-level : {t t′ : Reached} {w w′ : List ℕ} → Reaches bytes s out t w → Reaches bytes s′ out′ t′ w′ → t .number ≡ t′ .number
       → AreLevel out out′ t t′ w w′
   runs-level none none same = begin
-  runs-level none (one-more run′ to′ line-end′ inside′ room′ after′ r′ is′) same =
+  runs-level none (one-more run′ to′ line-end′ inside′ free′ after′ r′ is′) same =
       absurd (lt-irrefl 0 (omega (arith, number-grows run′, begin .number)))
   runs-level (one-more run to line-end inside free after r is) none same = absurd (lt-irrefl 0 (omega (arith, number-grows run, begin .number)))
   runs-level (one-more {t} {written = w} run to line-end inside free after r is)
@@ -87,13 +88,13 @@ module _ {bytes out out′ : List ℕ} {s s′ : Reached} (begin : AreLevel out 
       (to + 1) (to′ + 1) (ap (λ (n : ℕ). n + 1) ends) after after′ r r′ is is′
 
   -- where one has stopped, the other goes no further
-  goes-no-further : {t t′ : Reached} {w w′ : List ℕ} → Reaches bytes s out t w → IsLineEnd bytes (t .from) (length bytes) ⊎ (length out < t .end + 1430)
+  goes-no-further : {t t′ : Reached} {w w′ : List ℕ} → Reaches bytes s out t w → IsLineEnd bytes (t .from) (length bytes) ⊎ (length out < t .end + room)
       → Reaches bytes s′ out′ t′ w′ → t .number ≤ t′ .number → t .number ≡ t′ .number
   goes-no-further run stopped none less = omega (arith, number-grows run, begin .number)
   goes-no-further {t} {w = w} run stopped (one-more {t = t′} {written = w′} run′ to′ line-end′ inside′ free′ after′ r′ is′) less =
       go (decLe (t .number) (t′ .number)) (λ before. goes-no-further run stopped run′ before)
     where
-      halts : AreLevel out out′ t t′ w w′ → IsLineEnd bytes (t .from) (length bytes) ⊎ (length out < t .end + 1430) → ⊥
+      halts : AreLevel out out′ t t′ w w′ → IsLineEnd bytes (t .from) (length bytes) ⊎ (length out < t .end + room) → ⊥
       halts level (inl last) = lt-irrefl 0 (omega (arith, line-end-unique (level .from) last line-end′))
       halts level (inr full) = lt-irrefl 0 (omega (arith, level .end))
 
@@ -104,12 +105,12 @@ module _ {bytes out out′ : List ℕ} {s s′ : Reached} (begin : AreLevel out 
 -- Two runs from the same beginning end level.
 same-run : {bytes out out′ w w′ : List ℕ} {s s′ t t′ : Reached} → AreLevel out out′ s s′ out out′ → length out ≡ length out′
     → HasRun s bytes out w t → HasRun s′ bytes out′ w′ t′ → AreLevel out out′ t t′ w w′
-same-run {t = t} {t′ = t′} begin room run run′ =
-    runs-level begin room (run .reaches) (run′ .reaches) (go (decLe (t .number) (t′ .number)))
+same-run {t = t} {t′ = t′} begin long run run′ =
+    runs-level begin long (run .reaches) (run′ .reaches) (go (decLe (t .number) (t′ .number)))
   where
     go : Dec (t .number ≤ t′ .number) → t .number ≡ t′ .number
-    go (yes less) = goes-no-further begin room (run .reaches) (run .stopped) (run′ .reaches) less
-    go (no more) = sym (goes-no-further (level-back begin) (sym room) (run′ .reaches) (run′ .stopped) (run .reaches) (omega arith))
+    go (yes less) = goes-no-further begin long (run .reaches) (run .stopped) (run′ .reaches) less
+    go (no more) = sym (goes-no-further (level-back begin) (sym long) (run′ .reaches) (run′ .stopped) (run .reaches) (omega arith))
 
 -- nothing more was run of either
 unmoved : {out out′ w w′ after after′ : List ℕ} {t t′ r r′ : Reached} → AreLevel out out′ t t′ w w′ → (r ≡ t) × (after ≡ w) → (r′ ≡ t′) × (after′ ≡ w′)
@@ -122,14 +123,14 @@ unmoved {out} {out′} {w} {w′} {after} {after′} {t} {t′} {r} {r′} level
 -- and so with what is left behind the last line end
 same-last : {bytes out out′ w w′ after after′ : List ℕ} {t t′ r r′ : Reached} → AreLevel out out′ t t′ w w′ → length w ≡ length w′
     → HasRunLast t bytes w after r → HasRunLast t′ bytes w′ after′ r′ → AreLevel out out′ r r′ after after′
-same-last {bytes} {out} {out′} {w} {w′} {after} {after′} {t} {t′} {r} {r′} level room last last′ =
-    go (ℕ-discrete (t .from) (length bytes)) (decLt (length w) (t .end + 1430))
+same-last {bytes} {out} {out′} {w} {w′} {after} {after′} {t} {t′} {r} {r′} level long last last′ =
+    go (ℕ-discrete (t .from) (length bytes)) (decLt (length w) (t .end + room))
   where
-    go : Dec (t .from ≡ length bytes) → Dec (length w < t .end + 1430) → AreLevel out out′ r r′ after after′
+    go : Dec (t .from ≡ length bytes) → Dec (length w < t .end + room) → AreLevel out out′ r r′ after after′
     go (yes done) _ = unmoved level (last .nothing-left done) (last′ .nothing-left (sym (level .from) ∙ done))
-    go (no some) (yes full) = unmoved level (last .no-room full) (last′ .no-room (omega (arith, room, level .end)))
+    go (no some) (yes full) = unmoved level (last .no-room full) (last′ .no-room (omega (arith, long, level .end)))
     go (no some) (no free) =
-        let free′ : t′ .end + 1430 ≤ length w′ = omega (arith, room, level .end) in
+        let free′ : t′ .end + room ≤ length w′ = omega (arith, long, level .end) in
         let (step, (is, r-is)) = last .last-line some (omega arith) in
         let (step′, (is′, r-is′)) = last′ .last-line (λ done. some (level .from ∙ done)) free′ in
         let last-lines = ap (λ (n : ℕ). drop n bytes) (level .from) in
@@ -139,7 +140,7 @@ same-last {bytes} {out} {out′} {w} {w′} {after} {after′} {t} {t′} {r} {r
 -- Annex 12.27: what `run_script` promises leaves nothing open
 pub same-script : (script before before′ after after′ : List ℕ) (r r′ : ℕ) → length before ≡ length before′
     → IsScript script before after r → IsScript script before′ after′ r′ → IsSameOutput before before′ after after′ r r′
-same-script script before before′ after after′ r r′ room is is′ =
+same-script script before before′ after after′ r r′ as-long is is′ =
     let one = is .beginning in
     let other = is′ .beginning in
     let end : is .begins .end ≡ is′ .begins .end = one .end ∙ sym (other .end) in
@@ -152,9 +153,9 @@ same-script script before before′ after after′ r r′ room is is′ =
       text = ap (λ (n : ℕ). take n before) (one .end) ∙ ap (λ (n : ℕ). take n before′) (sym (other .end));
       buffer = λ same. same;
     } in
-    let lines = same-run begin room (is .lines) (is′ .lines) in
+    let lines = same-run begin as-long (is .lines) (is′ .lines) in
     let long : length (is .middle) ≡ length (is′ .middle) =
-    run-length (is .lines .reaches) ∙ room ∙ sym (run-length (is′ .lines .reaches)) in
+    run-length (is .lines .reaches) ∙ as-long ∙ sym (run-length (is′ .lines .reaches)) in
     let ended = same-last lines long (is .last) (is′ .last) in
     record {
       count = is .written ∙ ended .end ∙ sym (is′ .written);

@@ -12,7 +12,7 @@ use Rattle.command.specs.Text.{IsNumeral, IsFields}
 use Rattle.command.specs.Text.IsNumeral.{digit, further}
 use Rattle.command.specs.Text.IsFields.{none, more}
 use Rattle.command.specs.Commands.{IsGood, IsMalformed, Says}
-use Rattle.command.specs.Puts.{IsLine}
+use Rattle.command.specs.Puts.{IsLine, AreLines, no-lines, line-then}
 use Rattle.command.specs.Facts.Text.{numeral-unique}
 use Rattle.command.specs.Facts.Numbers.{ends-last}
 use Rattle.command.specs.Facts.Fields.{IsFirst, fields-cases, ends-before}
@@ -79,6 +79,11 @@ line-text {letter} is is′ =
     let fields = fields-text (is .written .numbers) (is′ .written .numbers) in
     let line : is .line ≡ is′ .line = is .written .begins ∙ ap (λ (l : List ℕ). letter ∷ l) fields ∙ sym (is′ .written .begins) in
     is .ended ∙ ap (λ (l : List ℕ). l ++ (10 ∷ [])) line ∙ sym (is′ .ended)
+
+-- Annex 12.25: so have lines one after the other
+pub lines-text : {lines : List (ℕ × List ℕ)} {one other : List ℕ} → AreLines lines one → AreLines lines other → one ≡ other
+lines-text no-lines no-lines = refl
+lines-text (line-then is later) (line-then is′ later′) = λ i. line-text is is′ i ++ lines-text later later′ i
 
 -- Annex 12.25: and a line with its end one letter and one list of numbers
 pub line-numbers : {letter letter′ : ℕ} {ns ms bytes : List ℕ} → IsLine letter ns bytes → IsLine letter′ ms bytes → (letter ≡ letter′) × (ns ≡ ms)

@@ -5,6 +5,7 @@ use Prim.Native.Nat.{_-_}
 use lib.ListN.{length}
 use lib.Seq.{length-take-le}
 use borrow.Author.Tests.{leb-true}
+use Rattle.command.specs.Puts.{room}
 use Rattle.console.specs.Facts.Session.{can-refill, refilled-turned, stayed-turned}
 use borrow.Author.Needs.{needs}
 use Rattle.console.proofs.turn_in_range.Statement.{statement}
@@ -37,7 +38,7 @@ refilled-in-range-requires : tie.Need-refilled-in-range-requires
 refilled-in-range-requires c κs =
     let start = c .before .before .before .before .before .before .before .before .before .before .before .before .before .before in
     let answered = c .before .before .before .before .before .before .before .before .before .answer-lines-in-range in
-    let room = leb-true 1430 (length (answered .last .1 .1 .0) - answered .result .reached .end) (c .before .if2 .taken) in
+    let room = leb-true room (length (answered .last .1 .1 .0) - answered .result .reached .end) (c .before .if2 .taken) in
     can-refill (answered .ensures) (c .before .before .before .handed-over .ensures) (start .pre .places)
     (omega (arith, room, answered .kept .1 .1 .0, start .pre .room))
 

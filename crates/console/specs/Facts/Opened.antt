@@ -14,20 +14,21 @@ use Rattle.planner.specs.declared.Planner.{Planner}
 use Rattle.alike.specs.Facts.Five.{change-leaves-sound, round-leaves-sound, add-five, remove-five, round-five, open-never-five}
 use Rattle.command.specs.Commands.{Says}
 use Rattle.command.specs.Answers.{Gives, IsAnswered}
-use Rattle.command.specs.Puts.{IsLine}
-use Rattle.command.specs.Facts.SameAnswers.{numbers-of}
+use Rattle.command.specs.Puts.{IsLine, AreLines}
+use Rattle.command.specs.Step.{lines-of, IsAnswer}
+use Rattle.command.specs.Facts.Puts.{only-line}
 use Rattle.command.specs.Facts.Unique.{says-one, good-unique, line-numbers}
 use Rattle.command.specs.declared.Command.{Command}
 use Rattle.command.specs.declared.Command.the-variants.{Open, Add, Remove, Round, Malformed}
 use Rattle.command.specs.declared.answers.Answered.{Answered}
-use Rattle.console.specs.Transcript.{IsAnswer, Transcript}
+use Rattle.console.specs.Transcript.{Transcript}
 use Rattle.console.specs.Transcript.Transcript.{none, next}
 use Rattle.console.specs.Opened.{IsNoOpen, IsOpen, AsksForOpen, IsFive}
 
-module _ (q : Planner) (number : ℕ) (line answer : List ℕ) (r : Answered) (text : IsLine (r .letter) (numbers-of r) answer) where
+module _ (q : Planner) (number : ℕ) (line answer : List ℕ) (r : Answered) (text : AreLines (lines-of r) answer) where
   -- the text of what is given
   given-text : {p : Planner} {l : ℕ} {ns : List ℕ} → Gives p l ns r → IsLine l ns answer
-  given-text given = rw (← (given .letter), ← (given .numbers)) text
+  given-text given = rw (← (given .letter), ← (given .numbers)) (only-line text)
 
   -- A line that is no O opens nothing, and leaves the planner sound exactly if it was.
   record IsKept : Type 0 where

@@ -10,6 +10,7 @@ use lib.ListN.{length, take, drop, length-drop, drop-of-length-le}
 use Rattle.planner.specs.Open.{zeros, IsFresh}
 use Rattle.planner.specs.declared.Planner.{Planner}
 use Rattle.command.specs.Lines.{IsLineEnd}
+use Rattle.command.specs.Puts.{room}
 use Rattle.command.specs.Script.{IsScript}
 use Rattle.command.specs.Facts.Puts.{put-written}
 use Rattle.command.specs.declared.lines.Reached.{Reached}
@@ -30,7 +31,7 @@ begun script p n from closed no-line at-first =
       stands = inl refl;
     }))
 
-module _ {script before after : List ℕ} {r : ℕ} (is : IsScript script before after r) (room : r + 1430 ≤ length before) where
+module _ {script before after : List ℕ} {r : ℕ} (is : IsScript script before after r) (free : r + room ≤ length before) where
   abbrev s : Reached
   s = is .begins
 
@@ -44,10 +45,10 @@ module _ {script before after : List ℕ} {r : ℕ} (is : IsScript script before
       (begun script (s .planner) (s .number) (s .from) (is .beginning .closed) (is .beginning .number) (is .beginning .from))
 
   -- the run did not stop for want of room
-  had-room : t .end + 1430 ≤ length (is .middle)
-  had-room = go (decLt (length (is .middle)) (t .end + 1430))
+  had-room : t .end + room ≤ length (is .middle)
+  had-room = go (decLt (length (is .middle)) (t .end + room))
     where
-      go : Dec (length (is .middle) < t .end + 1430) → t .end + 1430 ≤ length (is .middle)
+      go : Dec (length (is .middle) < t .end + room) → t .end + room ≤ length (is .middle)
       go (no free) = omega arith
       go (yes full) =
           let same : is .ended .end ≡ t .end = ap (λ (x : Reached). x .end) (is .last .no-room full .0) in
@@ -56,7 +57,7 @@ module _ {script before after : List ℕ} {r : ℕ} (is : IsScript script before
   no-line-left : HasNoEnd (drop (t .from) script)
   no-line-left = go (is .lines .stopped)
     where
-      go : IsLineEnd script (t .from) (length script) ⊎ (length before < t .end + 1430) → HasNoEnd (drop (t .from) script)
+      go : IsLineEnd script (t .from) (length script) ⊎ (length before < t .end + room) → HasNoEnd (drop (t .from) script)
       go (inl line-end) = rest-no-end script (t .from) line-end
       go (inr full) = absurd (lt-irrefl 0 (omega (arith, had-room, lines-told .0)))
 

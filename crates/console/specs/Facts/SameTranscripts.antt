@@ -1,5 +1,5 @@
 -- Two hosts that have read the same bytes have written the same: what is told of the same reads is the same.
-use mathlib.Core.Path.{_≡_, refl, sym, ap, subst, _∙_}
+use mathlib.Core.Path.{_≡_, refl, sym, ap, _∙_}
 use mathlib.Core.Logic.{ite, if-neg}
 use mathlib.Core.List.{List, [], _∷_, _++_, append-nil, append-assoc, cons≢nil, head-eq-of-cons-eq, tail-eq-of-cons-eq}
 use Prim.Native.Nat.{ℕ, _+_, _≤_}
@@ -8,23 +8,11 @@ use native.Mathlib.Decide.{ℕ-discrete, decLe}
 use native.Mathlib.Omega.{arith}
 use Rattle.planner.specs.declared.Planner.{Planner}
 use Rattle.alike.specs.Twins.{AreTwins}
-use Rattle.alike.specs.Facts.Twins.{equal-are-twins, still-twins}
-use Rattle.command.specs.Commands.{Says}
-use Rattle.command.specs.Answers.{IsAnswered}
-use Rattle.command.specs.Facts.SameAnswers.{same-text}
-use Rattle.console.specs.Transcript.{HasNoEnd, IsAnswer, Transcript, AreAnswered, Told, ToldAll}
+use Rattle.alike.specs.Facts.Twins.{equal-are-twins}
+use Rattle.command.specs.Facts.SameAnswers.{same-answer}
+use Rattle.console.specs.Transcript.{HasNoEnd, Transcript, AreAnswered, Told, ToldAll}
 use Rattle.console.specs.Transcript.Transcript.{none, next}
 use Rattle.console.specs.Facts.LineEnds.{no-end-second}
-
--- twins answer the same line with the same bytes, and twins are left
-same-answer : {p p′ after after′ : Planner} {number number′ : ℕ} {line line′ bytes bytes′ : List ℕ} → AreTwins p p′ → number ≡ number′ → line ≡ line′
-    → IsAnswer p number line bytes after → IsAnswer p′ number′ line′ bytes′ after′ → (bytes ≡ bytes′) × AreTwins after after′
-same-answer {p′ = p′} {number = number} {line = line} {bytes = bytes} {bytes′ = bytes′} twins numbers lines is is′ =
-    let says′ = subst (λ (l : List ℕ). Says l (is′ .command)) (sym lines) (is′ .says) in
-    let by′ = subst (λ (n : ℕ). IsAnswered p′ n (is′ .command) (is′ .answered)) (sym numbers) (is′ .by-contract) in
-    let (text, left) = same-text twins number line (is .command) (is′ .command) (is .answered) (is′ .answered) (is .says) says′ (is .by-contract) by′
-    bytes bytes′ (is .written) (is′ .written) in
-    (text, still-twins left (is .planner) (is′ .planner))
 
 -- bytes have one first line
 same-first-line : (line line′ rest rest′ : List ℕ) → HasNoEnd line → HasNoEnd line′ → line ++ (10 ∷ rest) ≡ line′ ++ (10 ∷ rest′)

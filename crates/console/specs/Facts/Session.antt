@@ -9,6 +9,7 @@ use native.Mathlib.Decide.{ℕ-discrete}
 use native.Mathlib.Omega.{arith}
 use lib.ListN.{length, take, drop, length-take, length-drop, take-append-drop, drop-of-length-le}
 use lib.Seq.{length-take-le, take-at, take-take}
+use Rattle.command.specs.Puts.{room}
 use Rattle.command.specs.Lines.{IsLineEnd}
 use Rattle.command.specs.Runs.{CanRun, HasRun, HasRunLast}
 use Rattle.command.specs.Facts.Puts.{put-written}
@@ -54,8 +55,8 @@ module _ {s : Session} {input out : List ℕ} (can : CanAnswer s input out) wher
           number = omega (arith, ran .counts, ran .in-input, all-there, can .bounds .have);
         }
       where
-        go : IsLineEnd (had s input) (r .from) (length (had s input)) ⊎ (length out < r .end + 1430)
-            → HasNoEnd (drop (r .from) (had s input)) ⊎ (65536 < r .end + 1430)
+        go : IsLineEnd (had s input) (r .from) (length (had s input)) ⊎ (length out < r .end + room)
+            → HasNoEnd (drop (r .from) (had s input)) ⊎ (65536 < r .end + room)
         go (inl line-end) = inl (rest-no-end (had s input) (r .from) line-end)
         go (inr full) = inr (omega (arith, full, can .room))
 
@@ -157,17 +158,17 @@ within-part l from n got few inside long = omega (arith, length-take n (drop fro
 
 module _ {s answered session : Session} {before out : List ℕ} (is : HasAnswered s before out answered) (over : session ≡ handed-over answered) where
   -- where there is room for another answer, no whole line is left
-  pub can-refill : length before ≡ 65536 → 1430 ≤ 65536 - answered .reached .end → CanRefill session before
-  can-refill places room =
+  pub can-refill : length before ≡ 65536 → room ≤ 65536 - answered .reached .end → CanRefill session before
+  can-refill places enough =
       subst⁻¹ (λ (x : Session). CanRefill x before) over
       (record {
         can-keep = record { bounds = record { from = is .bounds .from; have = is .bounds .have }; no-end = go (is .all-or-full); places = places };
         empty = refl;
       })
     where
-      go : HasNoEnd (at-hand answered before) ⊎ (65536 < answered .reached .end + 1430) → HasNoEnd (at-hand answered before)
+      go : HasNoEnd (at-hand answered before) ⊎ (65536 < answered .reached .end + room) → HasNoEnd (at-hand answered before)
       go (inl no-end) = no-end
-      go (inr full) = absurd (lt-irrefl 0 (omega (arith, full, room, is .end)))
+      go (inr full) = absurd (lt-irrefl 0 (omega (arith, full, enough, is .end)))
 
   still-told : (read written : List ℕ) → HasTold read written s before → HasTold read (written ++ take (answered .reached .end) out) session before
   still-told read written told =

@@ -2,7 +2,7 @@
 use mathlib.Core.Path.{_≡_, refl, sym, ap, subst, _∙_}
 use mathlib.Core.Logic.{_⊎_, inl, inr}
 use mathlib.Core.List.{List, [], _∷_, _++_, append-nil, append-assoc}
-use Prim.Native.Nat.{ℕ, _+_, _-_, _≤_, _<_}
+use Prim.Native.Nat.{ℕ, _+_, _≤_, _<_}
 use native.Mathlib.Nat.{lt-irrefl}
 use native.Mathlib.Decide.{decLt}
 use native.Mathlib.Omega.{arith}
@@ -12,14 +12,14 @@ use Rattle.planner.specs.declared.Planner.{Planner}
 use Rattle.command.specs.Commands.{Says}
 use Rattle.command.specs.Facts.Commands.{too-long}
 use Rattle.command.specs.Facts.Puts.{put-length, put-written}
-use Rattle.command.specs.Step.{IsStep}
+use Rattle.command.specs.Step.{IsStep, IsAnswer}
 use Rattle.command.specs.Runs.{part-of, Reaches}
 use Rattle.command.specs.Runs.Reaches.{none as reached-none, one-more}
 use Rattle.command.specs.declared.Command.{Command}
 use Rattle.command.specs.declared.Command.the-variants.{Open, Add, Remove, Round, Malformed}
 use Rattle.command.specs.declared.lines.Reached.{Reached}
 use Rattle.command.specs.declared.step.Step.{Step}
-use Rattle.console.specs.Transcript.{HasNoEnd, IsAnswer, IsCut, Told, ToldAll}
+use Rattle.console.specs.Transcript.{HasNoEnd, IsCut, Told, ToldAll}
 use Rattle.console.specs.Transcript.Transcript.{next}
 use Rattle.console.specs.Facts.LineEnds.{no-end-first, no-end-second, no-end-both, before-the-end, split-line, line-no-end}
 
@@ -143,15 +143,7 @@ cut-told {kept = kept} no-end told =
 module _ {p : Planner} {number : ℕ} {line before after : List ℕ} {at : ℕ} {r : Step} (is : IsStep p number line before after at r) where
   -- the bytes that a step puts are the answer to its line, and its planner is the one that the answer leaves
   pub step-answer : IsAnswer p number line (is .written .bytes) (r .planner)
-  step-answer =
-      record {
-        command = is .command;
-        says = is .says;
-        answered = is .answered;
-        by-contract = is .by-contract;
-        planner = is .planner;
-        written = is .written .property;
-      }
+  step-answer = is .written .property
 
 -- lines that were run, from an empty output on, are told, and the output keeps its length
 pub run-told : {bytes out after : List ℕ} {s t : Reached} → Reaches bytes s out t after → s .end ≡ 0 → t .end ≤ length out → (read written : List ℕ)

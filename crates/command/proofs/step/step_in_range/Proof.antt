@@ -1,5 +1,6 @@
 -- `command::step::step_in_range` meets its contract: what the line says is answered, and the answer is written.
 use mathlib.Core.Path.{refl}
+use Rattle.command.specs.Facts.Puts.{one-line}
 use Rattle.command.specs.Facts.Answers.{answered-few}
 use borrow.Author.Needs.{needs}
 use Rattle.command.proofs.step.step_in_range.Statement.{statement}
@@ -26,14 +27,24 @@ returns c =
     let parse = c .before .before .before .before .before .before .before .parse in
     let answer = c .before .before .before .before .before .before .answer in
     let put-line = c .before .before .before .put-line-in-range in
+    let put = put-line .ensures .0 in
     record {
-      command = parse .result;
-      says = parse .ensures;
-      answered = answer .result;
-      by-contract = answer .ensures;
-      planner = refl;
-      written = put-line .ensures .0;
-      room = put-line .ensures .1;
+      written =
+          record {
+            bytes = put .bytes;
+            property =
+                record {
+                  command = parse .result;
+                  says = parse .ensures;
+                  answered = answer .result;
+                  by-contract = answer .ensures;
+                  planner = refl;
+                  written = one-line (put .property);
+                };
+            ends = put .ends;
+            content = put .content;
+          };
+      in-room = put-line .ensures .1;
     }
 
 pub step-in-range-spec : {M : Type 1} → statement M

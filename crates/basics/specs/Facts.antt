@@ -6,4 +6,5 @@ pub mod NewIds
 pub mod Decides
 pub mod Lexicographic
 pub mod Refusals
+pub mod OneTo
 pub mod Below

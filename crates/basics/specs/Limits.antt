@@ -13,6 +13,28 @@ places = 64
 abbrev pub most-slots : ℕ
 most-slots = 64
 
+-- Annex 3.6: the longest superframe, the largest F, and the longest gap, the largest G.
+abbrev pub longest-frame : ℕ
+longest-frame = 5040
+
+abbrev pub longest-gap : ℕ
+longest-gap = 255
+
+-- Annex 3.7: the longest period that a stream can have.
+abbrev pub longest-period : ℕ
+longest-period = 240
+
+-- Annex 3.8: how far after now a release can be: the longest period less one.
+abbrev pub furthest-release : ℕ
+furthest-release = 239
+
+-- The largest key of a queue, and how far two keys can be apart.
+abbrev pub largest-key : ℕ
+largest-key = 2_000_000_000
+
+abbrev pub key-span : ℕ
+key-span = 479
+
 -- Annex 3.7: the largest id that a stream can have.
 abbrev pub largest-id : ℕ
 largest-id = 32_767

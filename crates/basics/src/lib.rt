@@ -5,10 +5,11 @@ ghost use Prim.Native.Nat.{_+_, _≤_, _<_};
 ghost use Rattle.basics.specs.Decides.{Decides};
 ghost use Rattle.basics.specs.Lexicographic.{Then};
 ghost use Rattle.basics.specs.NewIds.{at, New, IsSame};
+ghost use Rattle.basics.specs.OneTo.{OneTo};
 ghost use Rattle.basics.specs.Places.{Rises, IsPlaceAmong, IsUpper};
 
 // Limits that several crates share: no round starts later than the last start; a table and a queue have so many places; a round has at most so
-// many slots; no id is larger.
+// many slots; no id, superframe, gap or period is larger; no release is further after now; no two keys of a queue are further apart.
 pub const LAST_START: u32 = 1_000_000_000;
 
 pub const PLACES: usize = 64;
@@ -16,6 +17,26 @@ pub const PLACES: usize = 64;
 pub const MOST_SLOTS: u32 = 64;
 
 pub const LARGEST_ID: u32 = 32_767;
+
+pub const LONGEST_FRAME: u32 = 5040;
+
+pub const LONGEST_GAP: u32 = 255;
+
+pub const LONGEST_PERIOD: u32 = 240;
+
+pub const FURTHEST_RELEASE: u32 = 239;
+
+pub const KEY_SPAN: u32 = 479;
+
+// Whether a number is 1 to a limit.
+pub fn is_one_to(n: u32, most: u32) -> bool
+    ensures { λ r. ⌜ Decides r (OneTo most n) ⌝ }
+{
+    if n < 1 {
+        return false;
+    }
+    n <= most
+}
 
 // A number of 16 bits in 32.
 pub fn wide(x: u16) -> u32

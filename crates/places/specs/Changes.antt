@@ -1,4 +1,5 @@
 -- What a change looks for among the places: where an id is, and whether a key fits beside the others.
+use Rattle.basics.specs.Limits.{key-span, largest-key}
 use mathlib.Core.Path.{_≡_}
 use mathlib.Core.List.{List}
 use Prim.Native.Nat.{ℕ, _+_, _≤_, _<_}
@@ -19,8 +20,8 @@ pub record IsPlaceOf (ids : List ℕ) (id i : ℕ) : Type 0 where
 
 -- The key at place i leaves a key within the span, unless the place is free or is the one left out.
 abbrev pub PlaceFits : (ids keys : List ℕ) → ℕ → ℕ → ℕ → Type 0
-PlaceFits ids keys out key i = (i ≡ out → ⊥) → 1 ≤ getD ids i 0 → (key ≤ getD keys i 0 + 479) × (getD keys i 0 ≤ key + 479)
+PlaceFits ids keys out key i = (i ≡ out → ⊥) → 1 ≤ getD ids i 0 → (key ≤ getD keys i 0 + key-span) × (getD keys i 0 ≤ key + key-span)
 
 -- A key is within the bounds beside the entries at all places but one.
 abbrev pub KeyFits : (ids keys : List ℕ) → ℕ → ℕ → Type 0
-KeyFits ids keys out key = (key ≤ 2_000_000_000) × ((i : ℕ) → i < 64 → PlaceFits ids keys out key i)
+KeyFits ids keys out key = (key ≤ largest-key) × ((i : ℕ) → i < 64 → PlaceFits ids keys out key i)

@@ -4,6 +4,7 @@ use mathlib.Core.Logic.{Dec·and}
 use mathlib.Core.List.{List, decidableBAll, decidableBEx}
 use Prim.Native.Nat.{ℕ, _+_, _≤_}
 use native.Mathlib.Decide.{decLe, ℕ-discrete, map-dec}
+use Rattle.basics.specs.Limits.{key-span, largest-key}
 use Rattle.basics.specs.Below.{decide-below, decide-implies}
 use Rattle.places.specs.Order.{Entry}
 use Rattle.places.specs.Entries.{Filed, InBounds}
@@ -19,9 +20,9 @@ decide-in-bounds es =
     map-dec
     (λ w. record { keys = w .0; released = w .1 .0; span = λ d e md me. w .1 .1 d md e me })
     (λ b. (b .keys, (b .released, λ d md e me. b .span d e md me)))
-    (Dec·and (decidableBAll (λ (e : Entry). decLe (e .key) 2_000_000_000) es)
+    (Dec·and (decidableBAll (λ (e : Entry). decLe (e .key) largest-key) es)
     (Dec·and (decidableBAll (λ (e : Entry). decLe (e .release) (e .key)) es)
-    (decidableBAll (λ (d : Entry). decidableBAll (λ (e : Entry). decLe (d .key) (e .key + 479)) es) es)))
+    (decidableBAll (λ (d : Entry). decidableBAll (λ (e : Entry). decLe (d .key) (e .key + key-span)) es) es)))
 
 -- what is asked of the places that hold an entry
 decide-full : (ids : ℕ → ℕ) (P : ℕ → Type 0) → ((i : ℕ) → Dec (P i)) → Dec ((i : ℕ) → Full ids i → P i)
@@ -44,7 +45,7 @@ decide-places-sound ids keys releases =
     (Dec·and (decide-full ids (λ i. ids i ≤ 32767) (λ i. decLe (ids i) 32767))
     (Dec·and (decide-full ids (λ i. (j : ℕ) → Full ids j → ids i ≡ ids j → i ≡ j)
     (λ i. decide-full ids (λ j. ids i ≡ ids j → i ≡ j) (λ j. decide-implies (ℕ-discrete (ids i) (ids j)) (ℕ-discrete i j))))
-    (Dec·and (decide-full ids (λ i. keys i ≤ 2_000_000_000) (λ i. decLe (keys i) 2_000_000_000))
+    (Dec·and (decide-full ids (λ i. keys i ≤ largest-key) (λ i. decLe (keys i) largest-key))
     (Dec·and (decide-full ids (λ i. releases i ≤ keys i) (λ i. decLe (releases i) (keys i)))
-    (decide-full ids (λ i. (j : ℕ) → Full ids j → keys i ≤ keys j + 479)
-    (λ i. decide-full ids (λ j. keys i ≤ keys j + 479) (λ j. decLe (keys i) (keys j + 479))))))))
+    (decide-full ids (λ i. (j : ℕ) → Full ids j → keys i ≤ keys j + key-span)
+    (λ i. decide-full ids (λ j. keys i ≤ keys j + key-span) (λ j. decLe (keys i) (keys j + key-span))))))))

@@ -5,6 +5,7 @@ use mathlib.Core.List.{List, [], _∷_, List·Mem, filter}
 use Prim.Native.Nat.{ℕ, _+_, _≤_, _<_}
 use native.Mathlib.Decide.{ℕ-discrete}
 use lib.ListN.{getD}
+use Rattle.basics.specs.Limits.{key-span, largest-key}
 use Rattle.places.specs.Order.{Entry, before, triple}
 
 -- Annex 8.10: an entry put into a list in order: in front of the first entry that it comes before, at the end if there is none.
@@ -43,6 +44,6 @@ FilesJust ids keys releases n es = (e : Entry) → List·Mem e es ↔ ∥ ((i : 
 
 -- Annex 8.5: no key is above 2,000,000,000, no release above its key, and no key more than 479 above another. Equality is within bounds.
 pub record InBounds (es : List Entry) : Type 0 where
-  pub keys : (e : Entry) → List·Mem e es → e .key ≤ 2_000_000_000
+  pub keys : (e : Entry) → List·Mem e es → e .key ≤ largest-key
   pub released : (e : Entry) → List·Mem e es → e .release ≤ e .key
-  pub span : (d e : Entry) → List·Mem d es → List·Mem e es → d .key ≤ e .key + 479
+  pub span : (d e : Entry) → List·Mem d es → List·Mem e es → d .key ≤ e .key + key-span

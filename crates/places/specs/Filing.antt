@@ -3,7 +3,7 @@ use mathlib.Core.Path.{_≡_}
 use mathlib.Core.List.{List}
 use Prim.Native.Nat.{ℕ, _+_, _≤_, _<_}
 use lib.ListN.{getD}
-use Rattle.basics.specs.Limits.{places, largest-id}
+use Rattle.basics.specs.Limits.{places, largest-id, key-span, largest-key}
 use Rattle.basics.specs.Places.{Rises}
 use Rattle.places.specs.Order.{Entry}
 use Rattle.places.specs.Entries.{row-of}
@@ -16,9 +16,9 @@ pub record CanFile (ids keys releases : List ℕ) (n : ℕ) : Type 0 where
   pub ascend : (i j : ℕ) → i < j → j < n → getD ids i 0 < getD ids j 0
   pub some : (i : ℕ) → i < n → 1 ≤ getD ids i 0
   pub small : (i : ℕ) → i < n → getD ids i 0 ≤ largest-id
-  pub keys-in-range : (i : ℕ) → i < n → getD keys i 0 ≤ 2_000_000_000
+  pub keys-in-range : (i : ℕ) → i < n → getD keys i 0 ≤ largest-key
   pub released : (i : ℕ) → i < n → getD releases i 0 ≤ getD keys i 0
-  pub span : (i j : ℕ) → i < n → j < n → getD keys i 0 ≤ getD keys j 0 + 479
+  pub span : (i j : ℕ) → i < n → j < n → getD keys i 0 ≤ getD keys j 0 + key-span
 
 -- r is which of the first n rows this entry is, or 64 where it is none of them.
 pub record IsRow (ids keys releases : List ℕ) (n : ℕ) (e : Entry) (r : ℕ) : Type 0 where

@@ -4,6 +4,7 @@ ghost use Rattle.basics.specs.Below.{Below};
 ghost use Rattle.basics.specs.Decides.{Decides};
 ghost use Rattle.basics.specs.NewIds.{at, New};
 ghost use Rattle.places.specs.Soundness.{KeyWithin, AllWithin, KeysWithin, IsLesser, IsLeast, ShortSpan, PlacesSound};
+use basics::KEY_SPAN;
 use basics::is_new_at;
 
 // The largest key that may be filed.
@@ -102,7 +103,7 @@ fn span_is_short<'a>(ids: &'a [u16; 64], keys: &'a [u32; 64]) -> bool
     ensures { λ r. ⌜ Decides r (ShortSpan (at (now (ids .entry))) (at (now (keys .entry)))) ⌝ }
 {
     let least = least_key(ids, keys);
-    keys_are_within(ids, keys, least + 479)
+    keys_are_within(ids, keys, least + KEY_SPAN)
 }
 
 // Whether ids are in range and differ, and keys and releases are within the bounds.

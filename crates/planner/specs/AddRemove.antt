@@ -5,7 +5,8 @@ use mathlib.Core.List.{List, [], _∷_, _++_}
 use Prim.Native.Nat.{ℕ, _+_, _≤_, _<_, _∣_}
 use native.Mathlib.Decide.{decLe, decDvd}
 use lib.ListN.{length}
-use Rattle.basics.specs.Limits.{places, largest-id}
+use Rattle.basics.specs.OneTo.{OneTo, decide-one-to, not-in}
+use Rattle.basics.specs.Limits.{places, largest-id, furthest-release, longest-period}
 use Rattle.basics.specs.Refusals.{Refusal, answer-of}
 use Rattle.rules.specs.Demand.{DemandRule, StartRule}
 use Rattle.rules.specs.Decide.{decide-demand-rule, decide-start-rule}
@@ -14,7 +15,6 @@ use Rattle.table.specs.Changes.{HasId, decide-id, put-by-id, without-id}
 use Rattle.planner.specs.Content.{Content, content, slots-of, frame-of, streams-in, now-of, with-table}
 use Rattle.planner.specs.Sound.{Sound}
 use Rattle.planner.specs.Decide.{decide-sound}
-use Rattle.planner.specs.Open.{not-in}
 use Rattle.planner.specs.declared.Planner.{Planner}
 use Rattle.planner.specs.declared.Offer.{Offer}
 use Rattle.planner.specs.declared.Changed.{Changed}
@@ -56,8 +56,8 @@ abbrev pub bad-period : ℕ → Content → Refusal
 bad-period period h =
     record {
       number = 9;
-      Applies = (((1 ≤ period) × (period ≤ 240)) × (period ∣ frame-of h)) → ⊥;
-      decided = Dec·not (Dec·and (Dec·and (decLe 1 period) (decLe period 240)) (decDvd period (frame-of h)));
+      Applies = (OneTo longest-period period × (period ∣ frame-of h)) → ⊥;
+      decided = Dec·not (Dec·and (decide-one-to longest-period period) (decDvd period (frame-of h)));
     }
 
 -- Annex 7.16: 10 unless D is 1 to P.
@@ -69,8 +69,8 @@ abbrev pub bad-start : ℕ → Content → Refusal
 bad-start start h =
     record {
       number = 11;
-      Applies = ((now-of h ≤ start) × (start ≤ now-of h + 239)) → ⊥;
-      decided = Dec·not (Dec·and (decLe (now-of h) start) (decLe start (now-of h + 239)));
+      Applies = ((now-of h ≤ start) × (start ≤ now-of h + furthest-release)) → ⊥;
+      decided = Dec·not (Dec·and (decLe (now-of h) start) (decLe start (now-of h + furthest-release)));
     }
 
 -- Annex 7.18: 12 if the table breaks the demand rule; it is the table with the new record that is tested.
@@ -102,13 +102,13 @@ add-refusals p o = unsound p ∷ (offer-refusals (content p) o ++ rule-refusals 
 
 -- Annex 7.21: the new stream is well formed, and a place is free: none of 6 to 11 applies, said condition by condition.
 pub record IsWellFormed (h : Content) (o : Offer) : Type 0 where
-  pub id : (1 ≤ o .id) × (o .id ≤ largest-id)
+  pub id : OneTo largest-id (o .id)
   pub new : HasId (o .id) (h .table) → ⊥
   pub place-free : length (h .table) < places
-  pub period-range : (1 ≤ o .period) × (o .period ≤ 240)
+  pub period-range : OneTo longest-period (o .period)
   pub divides : o .period ∣ frame-of h
-  pub deadline-range : (1 ≤ o .deadline) × (o .deadline ≤ o .period)
-  pub start-range : (now-of h ≤ o .start) × (o .start ≤ now-of h + 239)
+  pub deadline-range : OneTo (o .period) (o .deadline)
+  pub start-range : (now-of h ≤ o .start) × (o .start ≤ now-of h + furthest-release)
 
 -- Annex 7.22: 14 if no record has the id, whatever number it is.
 abbrev pub not-held : ℕ → Content → Refusal

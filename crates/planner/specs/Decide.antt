@@ -2,9 +2,11 @@
 use mathlib.Core.Path.{sym, subst}
 use mathlib.Core.Logic.{Dec·and, ∥∥₁-elim}
 use mathlib.Core.List.{List, List·Mem, List·Mem-prop, decidableBAll, decidableBEx, decMem, instDecidablePairwise}
-use Prim.Native.Nat.{ℕ, _+_, _≤_, _<_}
+use Prim.Native.Nat.{ℕ, _+_, _<_}
 use native.Mathlib.Decide.{ℕ-discrete, decLe, decLt, decDvd, map-dec}
 use lib.ListN.{length}
+use Rattle.basics.specs.OneTo.{decide-one-to}
+use Rattle.basics.specs.Limits.{furthest-release, largest-id, longest-period}
 use Rattle.basics.specs.Refusals.{answer-of}
 use Rattle.rules.specs.Decide.{decide-demand-rule, decide-start-rule}
 use Rattle.table.specs.Table.{due-of}
@@ -18,23 +20,18 @@ use Rattle.planner.specs.declared.Setting.{Setting}
 use Rattle.planner.specs.Open.{open-refusals}
 use Rattle.planner.specs.Facts.Open.{NumbersInRange, range-numbers, in-range-by-numbers, open-passes, open-in-range}
 use Rattle.planner.specs.declared.Planner.{Planner}
-use Rattle.rules.specs.Slots.{slots}
 use Rattle.rules.specs.Facts.LazyStart.{lazy-unique}
 use Rattle.planner.specs.Facts.Sound.{sound-start}
 use Rattle.planner.specs.Start.{IsStart, StartsLate}
-
--- 1 to a limit
-decide-within : (limit n : ℕ) → Dec ((1 ≤ n) × (n ≤ limit))
-decide-within limit n = Dec·and (decLe 1 n) (decLe n limit)
 
 decide-record : (frame : ℕ) (r : Record) → Dec (RecordInRange frame r)
 decide-record frame r =
     map-dec
     (λ w. record { id = w .0; period = w .1 .0; divides = w .1 .1 .0; deadline = w .1 .1 .1 })
     (λ range. (range .id, (range .period, (range .divides, range .deadline))))
-    (Dec·and (decide-within 32767 (r .id))
-    (Dec·and (decide-within 240 (r .period))
-    (Dec·and (decDvd (r .period) frame) (decide-within (r .period) (r .deadline)))))
+    (Dec·and (decide-one-to largest-id (r .id))
+    (Dec·and (decide-one-to longest-period (r .period))
+    (Dec·and (decDvd (r .period) frame) (decide-one-to (r .period) (r .deadline)))))
 
 decide-records : (frame : ℕ) (rs : List Record) → Dec (RecordsInRange frame rs)
 decide-records frame rs =
@@ -44,7 +41,7 @@ decide-records frame rs =
 decide-near : (now : ℕ) (rs : List Record) → Dec (AreNear now rs)
 decide-near now rs =
     map-dec (λ w. record { due-after = w .0; released = w .1 }) (λ r. (r .due-after, r .released))
-    (Dec·and (decidableBAll (λ (r : Record). decLt now (due-of r)) rs) (decidableBAll (λ (r : Record). decLe (r .release) (now + 239)) rs))
+    (Dec·and (decidableBAll (λ (r : Record). decLt now (due-of r)) rs) (decidableBAll (λ (r : Record). decLe (r .release) (now + furthest-release)) rs))
 
 -- the numbers are in range exactly if open does not refuse them
 decide-numbers : (s : Setting) (t : ℕ) → Dec (NumbersInRange s t)

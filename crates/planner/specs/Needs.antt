@@ -3,7 +3,8 @@ use mathlib.Core.Path.{_≡_}
 use mathlib.Core.List.{List, List·Mem}
 use Prim.Native.Nat.{ℕ, _+_, _≤_, _<_}
 use lib.ListN.{length, take, getD}
-use Rattle.basics.specs.Limits.{last-start, places, largest-id}
+use Rattle.basics.specs.OneTo.{OneTo}
+use Rattle.basics.specs.Limits.{last-start, places, largest-id, key-span, largest-key}
 use Rattle.basics.specs.Refusals.{answer-of}
 use Rattle.rules.specs.Demand.{DemandRule, StartRule}
 use Rattle.table.specs.Table.{records-of, record-at, due-of}
@@ -32,9 +33,9 @@ pub record IsSoundStart (p : Planner) (r : ℕ) : Type 0 where
 pub record CanCompare (table : Table) : Type 0 where
   pub count : table .count ≤ places
   pub ascending : Ascending (records-of table)
-  pub ids : (r : Record) → List·Mem r (records-of table) → (1 ≤ r .id) × (r .id ≤ largest-id)
-  pub dues : (r : Record) → List·Mem r (records-of table) → due-of r ≤ 2_000_000_000
-  pub span : (q r : Record) → List·Mem q (records-of table) → List·Mem r (records-of table) → due-of q ≤ due-of r + 479
+  pub ids : (r : Record) → List·Mem r (records-of table) → OneTo largest-id (r .id)
+  pub dues : (r : Record) → List·Mem r (records-of table) → due-of r ≤ largest-key
+  pub span : (q r : Record) → List·Mem q (records-of table) → List·Mem r (records-of table) → due-of q ≤ due-of r + key-span
 
 -- The queue is sound and files exactly the streams of the table.
 abbrev pub IsFiled : Table → Queue → Type 0

@@ -1,11 +1,11 @@
 -- What open answers and leaves: Annex, chapter 7.
 use mathlib.Core.Path.{_≡_}
-use mathlib.Core.Logic.{Dec·and, Dec·not}
 use mathlib.Core.List.{List, [], _∷_}
-use Prim.Native.Nat.{ℕ, _≤_, _<_}
-use native.Mathlib.Decide.{decLe, decLt}
+use Prim.Native.Nat.{ℕ, _<_}
+use native.Mathlib.Decide.{decLt}
 use lib.ListN.{replicate}
-use Rattle.basics.specs.Limits.{last-start, places, most-slots}
+use Rattle.basics.specs.OneTo.{not-in}
+use Rattle.basics.specs.Limits.{last-start, places, most-slots, longest-frame, longest-gap}
 use Rattle.basics.specs.Refusals.{Refusal, answer-of}
 use Rattle.table.specs.Table.{no-record}
 use Rattle.table.specs.declared.Table.{Table}
@@ -15,10 +15,6 @@ use Rattle.planner.specs.Content.{Content, content}
 use Rattle.planner.specs.declared.Planner.{Planner}
 use Rattle.planner.specs.declared.Setting.{Setting}
 use Rattle.planner.specs.declared.Changed.{Changed}
-
--- Annex 7.6: the refusal with this number, which applies unless n is 1 to a limit.
-abbrev pub not-in : ℕ → ℕ → ℕ → Refusal
-not-in number limit n = record { number = number; Applies = ((1 ≤ n) × (n ≤ limit)) → ⊥; decided = Dec·not (Dec·and (decLe 1 n) (decLe n limit)) }
 
 -- Annex 7.6: 4 if T is above 1,000,000,000.
 abbrev pub late : ℕ → Refusal
@@ -34,7 +30,7 @@ zeros = setting 0 0 0
 
 -- Annex 7.6: the refusals of open: 1 unless B is 1 to 64, 2 unless F is 1 to 5,040, 3 unless G is 1 to 255, and 4 if T is too late.
 abbrev pub open-refusals : Setting → ℕ → List Refusal
-open-refusals s t = not-in 1 most-slots (s .slots) ∷ not-in 2 5040 (s .frame) ∷ not-in 3 255 (s .gap) ∷ late t ∷ []
+open-refusals s t = not-in 1 most-slots (s .slots) ∷ not-in 2 longest-frame (s .frame) ∷ not-in 3 longest-gap (s .gap) ∷ late t ∷ []
 
 -- Annex 7.7: what a planner holds once opened: B, F and G as passed, T for L, and no record.
 abbrev pub opened : Setting → ℕ → Content

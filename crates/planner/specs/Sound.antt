@@ -4,7 +4,8 @@ use mathlib.Core.Logic.{_↔_}
 use mathlib.Core.List.{List, List·Mem}
 use Prim.Native.Nat.{_≤_}
 use lib.ListN.{length}
-use Rattle.basics.specs.Limits.{last-start, places, most-slots}
+use Rattle.basics.specs.OneTo.{OneTo}
+use Rattle.basics.specs.Limits.{last-start, places, most-slots, longest-frame, longest-gap}
 use Rattle.rules.specs.Demand.{DemandRule, StartRule}
 use Rattle.table.specs.Table.{due-of}
 use Rattle.table.specs.Range.{RecordsInRange, AreNear}
@@ -17,9 +18,9 @@ use Rattle.planner.specs.declared.Setting.{Setting}
 
 -- Annex 3.6: B is 1 to 64, F 1 to 5,040, G 1 to 255 ..
 pub record SettingInRange (s : Setting) : Type 0 where
-  pub slots : (1 ≤ s .slots) × (s .slots ≤ most-slots)
-  pub frame : (1 ≤ s .frame) × (s .frame ≤ 5040)
-  pub gap : (1 ≤ s .gap) × (s .gap ≤ 255)
+  pub slots : OneTo most-slots (s .slots)
+  pub frame : OneTo longest-frame (s .frame)
+  pub gap : OneTo longest-gap (s .gap)
 
 -- Annex 3.6: .. L is at most 1,000,000,000; there are at most 64 records, and they are in range (3.7).
 pub record InRange (h : Content) : Type 0 where

@@ -11,7 +11,9 @@ use super::Offer;
 use super::Planner;
 use super::soundness::sound_start;
 use basics::LARGEST_ID;
+use basics::LONGEST_PERIOD;
 use basics::PLACES;
+use basics::is_one_to;
 use table::Record;
 use table::Table;
 
@@ -20,7 +22,7 @@ fn offer_refusal_sound(p: Planner, offer: Offer) -> u32
     requires { ⌜ Sound p ⌝ }
     ensures { λ r. ⌜ r ≡ answer-of (offer-refusals (content p) offer) ⌝ }
 {
-    if !table::is_one_to(offer.id, LARGEST_ID) {
+    if !is_one_to(offer.id, LARGEST_ID) {
         return 6;
     }
     let table = p.table;
@@ -30,19 +32,19 @@ fn offer_refusal_sound(p: Planner, offer: Offer) -> u32
     if table.count == PLACES {
         return 8;
     }
-    if !table::is_one_to(offer.period, 240) {
+    if !is_one_to(offer.period, LONGEST_PERIOD) {
         return 9;
     }
     if p.setting.frame % offer.period != 0 {
         return 9;
     }
-    if !table::is_one_to(offer.deadline, offer.period) {
+    if !is_one_to(offer.deadline, offer.period) {
         return 10;
     }
     if offer.start <= p.last {
         return 11;
     }
-    if p.last + 240 < offer.start {
+    if p.last + LONGEST_PERIOD < offer.start {
         return 11;
     }
     0

@@ -6,7 +6,10 @@ use super::Changed;
 use super::Planner;
 use super::Setting;
 use basics::LAST_START;
+use basics::LONGEST_FRAME;
+use basics::LONGEST_GAP;
 use basics::MOST_SLOTS;
+use basics::is_one_to;
 use table::Record;
 use table::Table;
 
@@ -35,13 +38,13 @@ fn without_streams(setting: Setting, last: u32) -> Planner
 pub fn open_refusal(setting: Setting, last: u32) -> u32
     ensures { λ r. ⌜ r ≡ answer-of (open-refusals setting last) ⌝ }
 {
-    if !table::is_one_to(setting.slots, MOST_SLOTS) {
+    if !is_one_to(setting.slots, MOST_SLOTS) {
         return 1;
     }
-    if !table::is_one_to(setting.frame, 5040) {
+    if !is_one_to(setting.frame, LONGEST_FRAME) {
         return 2;
     }
-    if !table::is_one_to(setting.gap, 255) {
+    if !is_one_to(setting.gap, LONGEST_GAP) {
         return 3;
     }
     if LAST_START < last {

@@ -5,7 +5,8 @@ use mathlib.Core.List.{List, List·Mem}
 use Prim.Native.Nat.{ℕ, zero, suc, _+_, _-_, _≤_, _<_}
 use native.Mathlib.Decide.{ℕ-discrete}
 use lib.ListN.{getD, length}
-use Rattle.basics.specs.Limits.{last-start, places, most-slots}
+use Rattle.basics.specs.OneTo.{OneTo}
+use Rattle.basics.specs.Limits.{last-start, places, most-slots, longest-frame, longest-period}
 use Rattle.rules.specs.Streams.{Stream, WellFormed}
 use Rattle.rules.specs.Demand.{DemandRule, StartRule, IsLazyStart}
 use Rattle.rules.specs.Ready.{count-by, IsBusy}
@@ -21,7 +22,7 @@ pub record IsBusyLength (b : ℕ) (ss : List Stream) (r : ℕ) : Type 0 where
   pub fails : r ≡ 0 → DemandRule b ss → ⊥
   pub holds : 1 ≤ r → DemandRule b ss
   pub busy : 1 ≤ r → IsBusy b ss r
-  pub short : r ≤ 5040
+  pub short : r ≤ longest-frame
 
 -- The lazy start, or 0 where the start rule fails.
 pub record IsNextStart (b now cap : ℕ) (ss : List Stream) (r : ℕ) : Type 0 where
@@ -32,20 +33,20 @@ pub record IsNextStart (b now cap : ℕ) (ss : List Stream) (r : ℕ) : Type 0 w
 -- What the test of the demand rule relies on.
 pub record CanTestDemand (b F : ℕ) (table : Table) : Type 0 where
   pub count : table .count ≤ places
-  pub slots : (1 ≤ b) × (b ≤ most-slots)
-  pub frame : (1 ≤ F) × (F ≤ 5040)
+  pub slots : OneTo most-slots b
+  pub frame : OneTo longest-frame F
   pub records : (r : Record) → List·Mem r (records-of table) → RecordInRange F r
 
 -- What the test of the start rule relies on: a busy length too.
 pub record CanFindStart (b x latest T : ℕ) (table : Table) : Type 0 where
   pub count : table .count ≤ places
-  pub slots : (1 ≤ b) × (b ≤ most-slots)
-  pub now : (1 ≤ x) × (x ≤ last-start + 1)
+  pub slots : OneTo most-slots b
+  pub now : OneTo (last-start + 1) x
   pub cap : x ≤ latest
-  pub formed : (r : Record) → List·Mem r (records-of table) → WellFormed (stream-of r) × (r .period ≤ 240)
+  pub formed : (r : Record) → List·Mem r (records-of table) → WellFormed (stream-of r) × (r .period ≤ longest-period)
   pub near : AreNear x (records-of table)
   pub busy : IsBusy b (streams-of table) T
-  pub short : T ≤ 5040
+  pub short : T ≤ longest-frame
 
 -- A walk at length t: the next due times, and how many due times there are by t.
 pub record IsWalk (first : Stream → ℕ) (table : Table) (t : ℕ) (next : List ℕ) (sum : ℕ) : Type 0 where
@@ -79,7 +80,7 @@ hits-before times t (suc n) = hits-before times t n + hits (getD times n 0) t
 pub record CanAdvance (periods times : List ℕ) (n t : ℕ) : Type 0 where
   pub count : n ≤ 64
   pub room : n ≤ length times
-  pub short : (k : ℕ) → k < n → getD periods k 0 ≤ 240
+  pub short : (k : ℕ) → k < n → getD periods k 0 ≤ longest-period
   pub near : t ≤ 60_000
 
 -- One length further, to t: the first n times move on, and r of them were at t.

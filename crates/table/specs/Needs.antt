@@ -4,7 +4,7 @@ use mathlib.Core.Logic.{ite}
 use mathlib.Core.List.{List, List·Mem, map}
 use Prim.Native.Nat.{ℕ, _≤_, _<_}
 use native.Mathlib.Decide.{ℕ-discrete}
-use Rattle.basics.specs.Limits.{places}
+use Rattle.basics.specs.Limits.{places, largest-key}
 use Rattle.table.specs.Table.{records-of, record-at, stream-at, value-of}
 use Rattle.table.specs.Changes.{HasId, sent, Ascending}
 use Rattle.table.specs.declared.Record.{Record}
@@ -44,4 +44,4 @@ pub record CanChange (table : Table) (id : ℕ) : Type 0 where
 -- What reading a column relies on.
 pub record CanRead (column : Column) (table : Table) : Type 0 where
   pub count : table .count ≤ places
-  pub small : (k : ℕ) → k < table .count → value-of column (stream-at table k) ≤ 2_000_000_000
+  pub small : (k : ℕ) → k < table .count → value-of column (stream-at table k) ≤ largest-key

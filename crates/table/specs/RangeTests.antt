@@ -1,12 +1,9 @@
 -- What the tests that together decide the range of a table ask of a number, of a record, and of a record after another.
 use Prim.Native.Nat.{ℕ, _+_, _≤_, _<_}
+use Rattle.basics.specs.Limits.{furthest-release}
 use Rattle.table.specs.Table.{due-of}
 use Rattle.table.specs.Range.{RecordInRange}
 use Rattle.table.specs.declared.Record.{Record}
-
--- n is 1 to `most`.
-abbrev pub OneTo : ℕ → ℕ → Type 0
-OneTo most n = (1 ≤ n) × (n ≤ most)
 
 -- Of one record: its unserved packet is due after now ..
 abbrev pub DueAfterNow : ℕ → Record → Type 0
@@ -14,7 +11,7 @@ DueAfterNow now r = now < due-of r
 
 -- .. and released no later than now + 239.
 abbrev pub ReleasedSoon : ℕ → Record → Type 0
-ReleasedSoon now r = r .release ≤ now + 239
+ReleasedSoon now r = r .release ≤ now + furthest-release
 
 -- One record is near now: both.
 abbrev pub IsNear : ℕ → Record → Type 0

@@ -3,6 +3,8 @@ use mathlib.Core.Path.{_≡_}
 use mathlib.Core.List.{List, List·Mem}
 use Prim.Native.Nat.{ℕ, _+_, _-_, _≤_, _<_}
 use lib.ListN.{getD}
+use Rattle.basics.specs.OneTo.{OneTo}
+use Rattle.basics.specs.Limits.{key-span}
 use Rattle.rules.specs.Streams.{Stream, due}
 use Rattle.rules.specs.Demand.{future, ceil}
 use Rattle.table.specs.Table.{streams-of}
@@ -18,7 +20,7 @@ pub record IsLeastOf (values : List ℕ) (n r : ℕ) : Type 0 where
 
 -- What counting rounds up from `needed` relies on: that many are not too many.
 pub record CanCountRounds (needed packets b : ℕ) : Type 0 where
-  pub slots : (1 ≤ b) × (b ≤ 64)
+  pub slots : OneTo 64 b
   pub few : packets ≤ 1_000_000
   pub low : needed ≤ ceil packets b
 
@@ -34,4 +36,4 @@ pub record CanLookFrom (b x latest first T : ℕ) (table : Table) (periods dues 
   pub before : (s : Stream) → List·Mem s (streams-of table) → first ≤ due s
   pub counts : 0 < future (streams-of table) first
   pub after : x < first
-  pub near : first ≤ x + 479
+  pub near : first ≤ x + key-span

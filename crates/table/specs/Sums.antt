@@ -3,7 +3,8 @@ use mathlib.Core.Path.{_≡_}
 use mathlib.Core.List.{List}
 use Prim.Native.Nat.{ℕ, _+_, _-_, _*_, _≤_, _<_}
 use lib.ListN.{getD, length}
-use Rattle.basics.specs.Limits.{places}
+use Rattle.basics.specs.Limits.{longest-frame, longest-period, places}
+use Rattle.basics.specs.OneTo.{OneTo}
 use Rattle.rules.specs.Streams.{Stream}
 use Rattle.rules.specs.Demand.{packets-by, demand}
 use Rattle.rules.specs.Ready.{AllWellFormed, most-in}
@@ -26,7 +27,7 @@ pub record HasPeriods (table : Table) (periods : List ℕ) : Type 0 where
   pub count : table .count ≤ places
   pub within : table .count ≤ length (table .streams)
   pub column : IsColumn Period table periods
-  pub range : (k : ℕ) → k < table .count → (1 ≤ stream-at table k .period) × (stream-at table k .period ≤ 240)
+  pub range : (k : ℕ) → k < table .count → OneTo longest-period (stream-at table k .period)
 
 -- Annex 12.19: at length t the sums carried are the rules' own, the demand and the busy length's W(t), and in each stream's place stand the next
 -- deadline and the next release, which they do not count yet. That they are few keeps them within 32 bits.
@@ -41,5 +42,5 @@ pub record AreSums (table : Table) (t : ℕ) (dues releases : List ℕ) (sums : 
 pub record CanCarry (table : Table) (periods dues releases : List ℕ) (t : ℕ) (before : Sums) : Type 0 where
   pub has : HasPeriods table periods
   pub formed : AllWellFormed (streams-of table)
-  pub within : (1 ≤ t) × (t ≤ 5040)
+  pub within : OneTo longest-frame t
   pub sums : AreSums table (t - 1) dues releases before

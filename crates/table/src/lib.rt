@@ -9,7 +9,6 @@ pub use changes::take_out_in_range;
 pub use columns::column_in_range;
 pub use lengths::busy_length_in_range;
 pub use range::in_range;
-pub use range::is_one_to;
 pub use start::next_start_in_range;
 
 mod changes;

@@ -1,21 +1,14 @@
 // Whether a table is in range, on any value whatever: no sum is formed that could overflow.
 use super::Record;
 use super::Table;
+use basics::FURTHEST_RELEASE;
 use basics::LARGEST_ID;
+use basics::LONGEST_PERIOD;
 use basics::PLACES;
+use basics::is_one_to;
 ghost use Rattle.basics.specs.Decides.{Decides};
 ghost use Rattle.table.specs.Range.{RecordInRange, TableInRange};
-ghost use Rattle.table.specs.RangeTests.{OneTo, DueAfterNow, ReleasedSoon, IsNear, CanFollow};
-
-// Whether a number is 1 to a limit.
-pub fn is_one_to(n: u32, most: u32) -> bool
-    ensures { λ r. ⌜ Decides r (OneTo most n) ⌝ }
-{
-    if n < 1 {
-        return false;
-    }
-    n <= most
-}
+ghost use Rattle.table.specs.RangeTests.{DueAfterNow, ReleasedSoon, IsNear, CanFollow};
 
 // The frame is divided only once the period is known not to be 0.
 fn record_in_range(stream: Record, frame: u32) -> bool
@@ -24,7 +17,7 @@ fn record_in_range(stream: Record, frame: u32) -> bool
     if !is_one_to(stream.id, LARGEST_ID) {
         return false;
     }
-    if !is_one_to(stream.period, 240) {
+    if !is_one_to(stream.period, LONGEST_PERIOD) {
         return false;
     }
     if frame % stream.period != 0 {
@@ -46,10 +39,10 @@ fn is_due_after(stream: Record, now: u32) -> bool
 fn is_released_soon(stream: Record, now: u32) -> bool
     ensures { λ r. ⌜ Decides r (ReleasedSoon now stream) ⌝ }
 {
-    if stream.release < 239 {
+    if stream.release < FURTHEST_RELEASE {
         return true;
     }
-    stream.release - 239 <= now
+    stream.release - FURTHEST_RELEASE <= now
 }
 
 fn is_near(stream: Record, now: u32) -> bool

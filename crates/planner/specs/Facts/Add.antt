@@ -23,7 +23,8 @@ use Rattle.queue.specs.declared.Queue.{Queue}
 use Rattle.planner.specs.Content.{Content, content, now-of, slots-of, streams-in}
 use Rattle.planner.specs.Sound.{entry-of, Sound}
 use Rattle.planner.specs.Decide.{decide-sound}
-use Rattle.planner.specs.Facts.Open.{NumbersInRange, range-numbers, in-limit}
+use Rattle.planner.specs.Facts.Open.{NumbersInRange, range-numbers}
+use Rattle.basics.specs.Facts.OneTo.{in-limit}
 use Rattle.planner.specs.declared.Offer.{Offer}
 use Rattle.planner.specs.AddRemove.{offered, added, unsound, offer-refusals, rule-refusals, add-refusals, IsWellFormed, IsSoundWith}
 use Rattle.planner.specs.Facts.Files.{can-insert, files-inserted}

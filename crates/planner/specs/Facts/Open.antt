@@ -1,12 +1,12 @@
 -- A successful opening gives a sound planner, and the closed planner is not sound.
 use mathlib.Core.Path.{_≡_, refl, sym, subst, subst⁻¹, _∙_}
-use mathlib.Core.Logic.{∥∥₁-elim, Dec·and, Dec·not-not}
+use mathlib.Core.Logic.{∥∥₁-elim}
 use mathlib.Core.List.{List, List·Mem, List·Mem-prop, Pairwise·nil, not-mem-nil}
 use Prim.Native.Nat.{ℕ, _≤_, _<_}
 use native.Mathlib.Nat.{lt-irrefl, lt-of-lt-of-le}
-use native.Mathlib.Decide.{decLe}
 use native.Mathlib.Omega.{arith}
 use lib.ListN.{length}
+use Rattle.basics.specs.Facts.OneTo.{in-limit}
 use Rattle.basics.specs.Refusals.{answer-of, none, later}
 use Rattle.basics.specs.Facts.Refusals.{AllPass, AllNumbered, zero-all-pass, first-is-answer}
 use Rattle.rules.specs.Demand.{demand, future}
@@ -66,10 +66,6 @@ fresh-is-sound s t numbers p is =
 -- Annex 3.12: the closed planner is not sound, since its B is 0
 pub closed-is-not-sound : (p : Planner) → IsFresh zeros 0 p → Sound p → ⊥
 closed-is-not-sound p fresh sound = lt-irrefl 0 (subst (λ (h : Content). 1 ≤ h .setting .slots) (fresh .holds) (sound .content-sound .in-range .setting .slots .0))
-
--- a number that `not-in` does not refuse is 1 to the limit
-pub in-limit : (limit n : ℕ) → ((((1 ≤ n) × (n ≤ limit)) → ⊥) → ⊥) → (1 ≤ n) × (n ≤ limit)
-in-limit limit n not-out = Dec·not-not (Dec·and (decLe 1 n) (decLe n limit)) .0 not-out
 
 module _ {s : Setting} {t : ℕ} where
   -- open refuses no numbers in range ..

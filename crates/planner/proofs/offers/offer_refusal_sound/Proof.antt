@@ -9,7 +9,7 @@ use lib.ListN.{length}
 use Rattle.basics.specs.Facts.Decides.{failed, passed}
 use Rattle.basics.specs.Refusals.{Refusal, FirstOf, none, here, later}
 use Rattle.basics.specs.Facts.Refusals.{first-is-answer}
-use Rattle.table.specs.RangeTests.{OneTo}
+use Rattle.basics.specs.OneTo.{OneTo}
 use Rattle.table.specs.Facts.Changes.{held-by-place}
 use Rattle.planner.specs.Content.{content}
 use Rattle.planner.specs.AddRemove.{bad-id, id-held, full, bad-period, bad-deadline}

@@ -6,7 +6,7 @@ use native.Mathlib.Nat.{lt-irrefl, lt-of-lt-of-le}
 use Rattle.basics.specs.Facts.Decides.{failed, passed}
 use Rattle.basics.specs.Refusals.{Refusal, FirstOf, none, here, later}
 use Rattle.basics.specs.Facts.Refusals.{first-is-answer}
-use Rattle.planner.specs.Open.{not-in}
+use Rattle.basics.specs.OneTo.{not-in}
 use borrow.Author.Needs.{needs}
 use Rattle.planner.proofs.opening.open_refusal.Statement.{statement}
 use Rattle.planner.proofs.opening.open_refusal.Tie as tie

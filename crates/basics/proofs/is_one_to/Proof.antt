@@ -1,8 +1,8 @@
--- `table::range::is_one_to` meets its contract: each end is compared.
+-- `basics::is_one_to` meets its contract: each end is compared.
 use native.Mathlib.Nat.{lt-irrefl, lt-of-lt-of-le}
 use Rattle.basics.specs.Facts.Decides.{decides-no, same-as, no-more-than}
-use Rattle.table.proofs.range.is_one_to.Statement.{statement}
-use Rattle.table.proofs.range.is_one_to.Tie as tie
+use Rattle.basics.proofs.is_one_to.Statement.{statement}
+use Rattle.basics.proofs.is_one_to.Tie as tie
 
 returns : tie.Need-returns
 returns c = decides-no (λ both. lt-irrefl _ (lt-of-lt-of-le (c .if1 .taken) (both .0)))

@@ -1,10 +1,11 @@
 // The lazy round planner: a planner goes in by value and comes back by value.
 ghost use mathlib.Core.Path.{_≡_};
 ghost use lib.ListN.{take};
-ghost use Rattle.planner.specs.AddRemove.{offer, IsAdd, IsRemove};
+ghost use Rattle.planner.specs.AddRemove.{IsRemove};
 ghost use Rattle.planner.specs.Round.{IsRound};
 ghost use Rattle.planner.specs.Needs.{IsRoundAnswer, IsSoundStart};
 use basics::LAST_START;
+pub use offers::add;
 pub use opening::open;
 use queue::Queue;
 use table::Table;
@@ -52,19 +53,6 @@ pub struct Rounded {
     pub planner: Planner,
     pub start: u32,
     pub n: u32,
-}
-
-// Annex 7.10 to 7.20: takes a stream in, whose first packet is released at `start`.
-pub fn add(p: Planner, id: u32, start: u32, period: u32, deadline: u32) -> Changed
-    ensures { λ r. ⌜ IsAdd p (offer id start period deadline) r ⌝ }
-{
-    let offer = Offer {
-        id,
-        start,
-        period,
-        deadline,
-    };
-    offers::add_offer(p, offer)
 }
 
 // Annex 7.22, 7.23: takes a stream out, and its waiting packet with it.

@@ -4,7 +4,7 @@ ghost use Rattle.basics.specs.Refusals.{answer-of};
 ghost use Rattle.table.specs.Needs.{HasRecords};
 ghost use Rattle.planner.specs.Content.{content};
 ghost use Rattle.planner.specs.Sound.{Sound};
-ghost use Rattle.planner.specs.AddRemove.{offer-refusals, rule-refusals, add-refusals, added, IsSoundWith, IsAdd};
+ghost use Rattle.planner.specs.AddRemove.{offer, offer-refusals, rule-refusals, add-refusals, added, IsSoundWith, IsAdd};
 ghost use Rattle.planner.specs.Needs.{CanAdd, CanTest};
 use super::Changed;
 use super::Offer;
@@ -111,7 +111,7 @@ fn add_sound(p: Planner, offer: Offer) -> Planner
 }
 
 // A refused offer leaves the planner as it was.
-pub fn add_offer(p: Planner, offer: Offer) -> Changed
+fn add_offer(p: Planner, offer: Offer) -> Changed
     ensures { λ r. ⌜ IsAdd p offer r ⌝ }
 {
     let answer = add_refusal(p, offer);
@@ -120,4 +120,17 @@ pub fn add_offer(p: Planner, offer: Offer) -> Changed
     }
     let planner = add_sound(p, offer);
     Changed { answer: 0, planner }
+}
+
+// Annex 7.10 to 7.20: takes a stream in, whose first packet is released at `start`.
+pub fn add(p: Planner, id: u32, start: u32, period: u32, deadline: u32) -> Changed
+    ensures { λ r. ⌜ IsAdd p (offer id start period deadline) r ⌝ }
+{
+    let offer = Offer {
+        id,
+        start,
+        period,
+        deadline,
+    };
+    add_offer(p, offer)
 }

@@ -12,7 +12,7 @@ use base.Fml.{GName, Lft, Share, Fml}
 use prog.Wp.{Heap, Calls, Loops, Env, WpFn}
 use ghost.Atoms.{Atoms}
 use types.Kit.{Given, raw, mean, ⋆, _$_, _∵_, !, qed, by, move, use0, use1}
-use types.Run.{look, init, forget, stop, load, and-then, enter, alloc1, alloc0, params1, pass1, free1, free0}
+use types.Run.{look, init, forget, stop, load, and-then, no-more, enter, alloc1, alloc0, params1, pass1, pass0, free1, free0}
 use sound.WpLaws.{FmC}
 use denote.Triple.Statement.{Contract, Triple}
 use denote.Triple.Call.{calls-at}
@@ -21,7 +21,8 @@ use Rattle.planner.specs.declared.Changed.{Changed}
 use Rattle.planner.proofs.Planner.Laws as P′
 use Rattle.planner.proofs.Changed.Laws as R′
 use Rattle.lent.proofs.Numbers.{Nums, Fit, vals, locals, env, operands, past, spot-past, found, reads-as, reads-at, alloc-numbers, pass-numbers, read-numbers, free-numbers}
-use Rattle.lent.proofs.Stored.{mach, lent, IsPlanner, Closed, Answer, store, store-if, answer, opened, copies-out, lands-change, stores, stores-if, returns-answer}
+use Rattle.lent.proofs.Owned.{mach, lent, IsPlanner, Closed}
+use Rattle.lent.proofs.Stored.{Answer, store, store-if, answer, opened, copies-out, lands-change, stores, stores-if, returns-answer}
 
 -- the MIR of a change with k numbers: _0 the answer, _1 the reference, the numbers, the result, the copy and the test
 abbrev pub changing : ℕ → Name → Fn
@@ -37,7 +38,7 @@ changing k callee =
           ∷ (locals k ++ (local R′.mir valueLocal ∷ local P′.mir valueLocal ∷ local tyBool valueLocal ∷ []));
       body =
           seq (assign (place p []) (rvOpd (copy (place 1 (deref P′.mir ∷ [])))))
-          (seq (call callee (copy (place p []) ∷ operands (λ i. suc (suc i)) k) (place c [])) (store-if c (suc (suc (past k 2))) 0 (answer c)));
+          (seq (call callee (copy (place p []) ∷ operands (λ i. suc (suc i)) k []) (place c [])) (store-if c (suc (suc (past k 2))) 0 (answer c)));
     }
 
 -- the MIR of an opening with k numbers: _0 the answer, _1 the reference, the numbers and the result
@@ -49,7 +50,7 @@ opening k callee =
       outlives = [];
       params = suc k;
       locals = local (tyInt w32) valueLocal ∷ local lent valueLocal ∷ (locals k ++ (local R′.mir valueLocal ∷ []));
-      body = seq (call callee (operands (λ i. suc (suc i)) k) (place c [])) (seq (store c) (answer c));
+      body = seq (call callee (operands (λ i. suc (suc i)) k []) (place c [])) (seq (store c) (answer c));
     }
 
 module _ {M : Type 1} (𝓤 : URA M) (H : Heap 𝓤) (A : Atoms 𝓤) (W : Given 𝓤 H A) (C : Calls 𝓤 H) (Λ : Loops 𝓤 H) (fm : FmC 𝓤 H (W .laws) C)
@@ -61,23 +62,23 @@ module _ {M : Type 1} (𝓤 : URA M) (H : Heap 𝓤) (A : Atoms 𝓤) (W : Given
     (Post : Val → SProp 𝓤)
     (exits : (r : Changed) → Says r → r .answer < 2 ^ 32 → ent 𝓤 (⋆ 𝓤 H A (Closed κ q γ b o (r .planner) [])) (Post (vint w32 (r .answer)))) where
   -- a refused change hands back the planner that it was given
-  pub changes : contract .args x ≡ mach h ∷ vals k ns → (IsPlanner h → ent 𝓤 (emp 𝓤) (contract .pre x))
+  pub changes : contract .args x ≡ mach h ∷ vals k ns [] → (IsPlanner h → ent 𝓤 (emp 𝓤) (contract .pre x))
       → ((r : Changed) → Says r → (r .answer ≡ 0 → ⊥) → r .planner ≡ h)
-      → ent 𝓤 (⋆ 𝓤 H A (Closed κ q γ b o h [])) (WpFn 𝓤 H C Λ (changing k callee) (vptr b o ∷ vals k ns) Post)
+      → ent 𝓤 (⋆ 𝓤 H A (Closed κ q γ b o h [])) (WpFn 𝓤 H C Λ (changing k callee) (vptr b o ∷ vals k ns []) Post)
   changes args passes-on kept =
-      qed W (Closed κ q γ b o h []) ∵ enter ! C Λ (changing k callee) (vptr b o ∷ vals k ns) Post $
+      qed W (Closed κ q γ b o h []) ∵ enter ! C Λ (changing k callee) (vptr b o ∷ vals k ns []) Post $
       alloc1 ! (λ l₀. alloc1 ! (λ l₁. alloc-numbers ! k (λ ls. alloc1 ! (λ l. alloc1 ! (λ lₚ. alloc1 ! (λ lᵧ. alloc0 ! $ params1 ! $
       let after : Env 𝓤 H = (R′.mir, l) ∷ (P′.mir, lₚ) ∷ (tyBool, lᵧ) ∷ [] in
       let E : Env 𝓤 H = (tyInt w32, l₀) ∷ (lent, l₁) ∷ (env k ls ++ after) in
       -- [room for the test, the copy and the result, each with its end; room for the numbers; _1 and _0, each with its end; obs; the borrow; the token]
-      pass1 ! (init ! 7 refl (tt, tt)) $ move ! (6 ∷ []) $ pass-numbers ! k ls ns fits after $
+      pass1 ! (init ! 7 refl (tt, tt)) $ move ! (6 ∷ []) $ pass-numbers ! k ls ns fits after $ pass0 ! $
       move ! (11 ∷ 12 ∷ 13 ∷ 3 ∷ 7 ∷ 5 ∷ 1 ∷ 9 ∷ []) $ copies-out ! h b o refl (spot-past 𝓤 H k ls after 1) (λ is.
       use0 W (raw (contract .pre x)) (passes-on is) $
       -- [what is passed; the planner's cell; the open borrow; obs; auth; the copy; _1; room for the result, the test and _0; the numbers; the ends]
       calls-at ! fm contract known x
       (reads-as args
       (and-then ! (load ! (found ! (spot-past 𝓤 H k ls after 1) (stop !)) (look ! 5 refl))
-      (reads-at 10 (read-numbers ! k ls ns (λ i. suc (suc i)) E after (λ i. refl))))) (λ w.
+      (reads-at 10 (read-numbers ! k ls ns (λ i. suc (suc i)) E after (λ i. refl) (no-more !))))) (λ w.
       use1 W (Answer 𝓤 F Says w) (answers w) $
       move ! (0 ∷ 1 ∷ 2 ∷ 3 ∷ 4 ∷ 6 ∷ 7 ∷ 8 ∷ 9 ∷ []) $ lands-change ! w Says b o (spot-past 𝓤 H k ls after 0) (λ r e is′ r-fits.
       stores-if ! is is′ refl (spot-past 𝓤 H k ls after 0) (spot-past 𝓤 H k ls after 2) refl tt (kept r e) $ move ! (0 ∷ 1 ∷ 2 ∷ 3 ∷ 4 ∷ 6 ∷ []) $
@@ -86,19 +87,19 @@ module _ {M : Type 1} (𝓤 : URA M) (H : Heap 𝓤) (A : Atoms 𝓤) (W : Given
       forget ! 7 refl $ move ! (5 ∷ 13 ∷ 3 ∷ 12 ∷ 8 ∷ 4 ∷ 11 ∷ 7 ∷ 10 ∷ 6 ∷ 9 ∷ []) $
       free1 ! $ free1 ! $ free-numbers ! k ls ns $ free1 ! $ free1 ! $ free1 ! $ free0 ! $ by ! (exits r e r-fits))))))))))
 
-  pub opens : contract .args x ≡ vals k ns → ent 𝓤 (emp 𝓤) (contract .pre x)
-      → ent 𝓤 (⋆ 𝓤 H A (Closed κ q γ b o h [])) (WpFn 𝓤 H C Λ (opening k callee) (vptr b o ∷ vals k ns) Post)
+  pub opens : contract .args x ≡ vals k ns [] → ent 𝓤 (emp 𝓤) (contract .pre x)
+      → ent 𝓤 (⋆ 𝓤 H A (Closed κ q γ b o h [])) (WpFn 𝓤 H C Λ (opening k callee) (vptr b o ∷ vals k ns []) Post)
   opens args passes-on =
-      qed W (Closed κ q γ b o h []) ∵ enter ! C Λ (opening k callee) (vptr b o ∷ vals k ns) Post $
+      qed W (Closed κ q γ b o h []) ∵ enter ! C Λ (opening k callee) (vptr b o ∷ vals k ns []) Post $
       alloc1 ! (λ l₀. alloc1 ! (λ l₁. alloc-numbers ! k (λ ls. alloc1 ! (λ l. alloc0 ! $ params1 ! $
       let after : Env 𝓤 H = (R′.mir, l) ∷ [] in
       let E : Env 𝓤 H = (tyInt w32, l₀) ∷ (lent, l₁) ∷ (env k ls ++ after) in
       -- [room for the result with its end; room for the numbers; _1 and _0, each with its end; obs; the borrow; the token]
-      pass1 ! (init ! 3 refl (tt, tt)) $ move ! (2 ∷ []) $ pass-numbers ! k ls ns fits after $
+      pass1 ! (init ! 3 refl (tt, tt)) $ move ! (2 ∷ []) $ pass-numbers ! k ls ns fits after $ pass0 ! $
       move ! (7 ∷ 8 ∷ 9 ∷ 3 ∷ 1 ∷ 5 ∷ []) $ opened ! h b o (λ _.
       use0 W (raw (contract .pre x)) passes-on $
       -- [what is passed; the planner's cell; the open borrow; obs; auth; _1; room for the result and _0; the numbers; the ends]
-      calls-at ! fm contract known x (reads-as args (reads-at 8 (read-numbers ! k ls ns (λ i. suc (suc i)) E after (λ i. refl)))) (λ w.
+      calls-at ! fm contract known x (reads-as args (reads-at 8 (read-numbers ! k ls ns (λ i. suc (suc i)) E after (λ i. refl) (no-more !)))) (λ w.
       use1 W (Answer 𝓤 F Says w) (answers w) $ lands-change ! w Says b o (spot-past 𝓤 H k ls after 0) (λ r e is r-fits.
       stores ! (r .planner) is b o refl (spot-past 𝓤 H k ls after 0) refl $ returns-answer ! refl (spot-past 𝓤 H k ls after 0) r-fits $
       -- [obs; the borrow; the token; room for _1, the result and _0; the numbers; the ends]

@@ -1,5 +1,5 @@
--- The numbers that a call is passed, however many: their locals are held as one entry of the context, so that a walk has the same
--- positions for every count. Assumes `Given`.
+-- The numbers that a call is passed, however many, in front of what is passed behind them: their locals are held as one entry of the context,
+-- so that a walk has the same positions for every count. Assumes `Given`.
 use mathlib.Core.Path.{_≡_, refl, sym, subst}
 use Prim.Native.Nat.{ℕ, zero, suc, _<_, _^_}
 use mathlib.Core.List.{[], _∷_, List, _++_}
@@ -12,7 +12,7 @@ use base.Fml.{Fml, ftrue, fsep, fat, froom, fdies}
 use prog.Wp.{Heap, Env, Spot, spotOf}
 use ghost.Atoms.{Atoms}
 use types.Kit.{Goal, allocs, passes, frees, Step, step, Seq, Given, Item, ‵, mean, ⋆, push, pop, pull, unpull, nth, del, _$_, _∵_, !, qed, move, fsplit3, fjoin3, drop, done}
-use types.Run.{Walks, Finds, Opds, look, init, forget, stop, from, load, and-then, no-more, alloc1, pass1, pass0, free1}
+use types.Run.{Walks, Finds, Opds, look, init, forget, stop, from, load, and-then, alloc1, pass1, free1}
 use denote.Steps.{nothing}
 
 -- so many numbers
@@ -25,12 +25,12 @@ abbrev pub Fit : (k : ℕ) → Nums k → Type 0
 Fit zero ns = Unit {0}
 Fit (suc k) ns = (ns .0 < 2 ^ 32) × Fit k (ns .1)
 
--- as machine values
-abbrev pub vals : (k : ℕ) → Nums k → List Val
-vals zero ns = []
-vals (suc k) ns = vint w32 (ns .0) ∷ vals k (ns .1)
+-- as machine values, and those of what is passed behind
+abbrev pub vals : (k : ℕ) → Nums k → List Val → List Val
+vals zero ns behind = behind
+vals (suc k) ns behind = vint w32 (ns .0) ∷ vals k (ns .1) behind
 
--- the locals of a function, the environment with these at their addresses, and the locals as operands
+-- the locals of a function, the environment with these at their addresses, and the locals as operands, with those behind
 abbrev pub locals : ℕ → List Local
 locals zero = []
 locals (suc k) = local (tyInt w32) valueLocal ∷ locals k
@@ -39,9 +39,9 @@ abbrev pub env : (k : ℕ) → Nums k → List (Ty × ℕ)
 env zero ls = []
 env (suc k) ls = (tyInt w32, ls .0) ∷ env k (ls .1)
 
-abbrev pub operands : (ℕ → ℕ) → ℕ → List Operand
-operands at zero = []
-operands at (suc k) = copy (place (at zero) []) ∷ operands (λ i. at (suc i)) k
+abbrev pub operands : (ℕ → ℕ) → ℕ → List Operand → List Operand
+operands at zero behind = behind
+operands at (suc k) behind = copy (place (at zero) []) ∷ operands (λ i. at (suc i)) k behind
 
 -- the place past them
 abbrev pub past : ℕ → ℕ → ℕ
@@ -49,11 +49,11 @@ past zero i = i
 past (suc k) i = suc (past k i)
 
 -- room for the numbers, and the numbers in it
-abbrev pub rooms : (k : ℕ) → Nums k → Fml
+abbrev rooms : (k : ℕ) → Nums k → Fml
 rooms zero ls = ftrue
 rooms (suc k) ls = fsep (froom (tyInt w32) (ls .0) 0) (fsep (fdies (tyInt w32) (ls .0)) (rooms k (ls .1)))
 
-abbrev pub cells : (k : ℕ) → Nums k → Nums k → Fml
+abbrev cells : (k : ℕ) → Nums k → Nums k → Fml
 cells zero ls ns = ftrue
 cells (suc k) ls ns = fsep (fat fullShare (tyInt w32) (ls .0) 0 (vint w32 (ns .0))) (fsep (fdies (tyInt w32) (ls .0)) (cells k (ls .1) (ns .1)))
 
@@ -90,24 +90,28 @@ module _ {M : Type 1} {𝓤 : URA M} {H : Heap 𝓤} {A : Atoms 𝓤} {K : Type 
   alloc-numbers t zero next = nothing t $ next tt
   alloc-numbers t (suc k) next = alloc1 t (λ l. alloc-numbers t k (λ ls. move t (1 ∷ 2 ∷ 0 ∷ []) $ fjoin3 t $ next (l, ls)))
 
-  -- .. each is stored there, the last of the parameters ..
-  pub pass-numbers : K → (k : ℕ) (ls ns : Nums k) → Fit k ns → (E : Env 𝓤 H) {Γ : List (Item 𝓤)} {g : Goal 𝓤 H}
-      → Step K W (‵ (cells k ls ns) ∷ Γ) g (‵ (rooms k ls) ∷ Γ) (passes (env k ls ++ E) (vals k ns) g)
-  pass-numbers t zero ls ns fits E = step (λ s. pass0 t $ s)
+  -- .. each is stored there, and what is behind them is left to be stored ..
+  pub pass-numbers : K → (k : ℕ) (ls ns : Nums k) → Fit k ns → (E : Env 𝓤 H) {vs : List Val} {Γ : List (Item 𝓤)} {g : Goal 𝓤 H}
+      → Step K W (‵ (cells k ls ns) ∷ Γ) (passes E vs g) (‵ (rooms k ls) ∷ Γ) (passes (env k ls ++ E) (vals k ns vs) g)
+  pass-numbers t zero ls ns fits E = step (λ s. s)
   pass-numbers t (suc k) ls ns fits E = step (λ s.
       fsplit3 t $ pass1 t (init t 0 refl (tt, record { fits = fits .0 })) $ move t (2 ∷ 0 ∷ 1 ∷ []) $ pass-numbers t k (ls .1) (ns .1) (fits .1) E $
       move t (1 ∷ 2 ∷ 0 ∷ []) $ fjoin3 t $ s)
 
-  -- .. read as an operand, from places that see them ..
+  -- .. read as operands, from places that see them, in front of those behind ..
   pub read-numbers : K → (k : ℕ) (ls ns : Nums k) (at : ℕ → ℕ) (E rest : Env 𝓤 H) → ((i : ℕ) → spotOf 𝓤 H E (at i) ≡ spotOf 𝓤 H (env k ls ++ rest) i)
-      → {Γ : List (Item 𝓤)} → Opds K W (‵ (cells k ls ns) ∷ Γ) E (operands at k) (vals k ns)
-  read-numbers t zero ls ns at E rest sees = no-more t
-  read-numbers t (suc k) ls ns at E rest sees {Γ} =
+      → {Γ : List (Item 𝓤)} {xs : List Operand} {vs : List Val} → Opds K W (‵ (cells k ls ns) ∷ Γ) E xs vs
+      → Opds K W (‵ (cells k ls ns) ∷ Γ) E (operands at k xs) (vals k ns vs)
+  read-numbers t zero ls ns at E rest sees behind = behind
+  read-numbers t (suc k) ls ns at E rest sees {Γ} behind =
       let first : List (Item 𝓤) = ‵ (fat fullShare (tyInt w32) (ls .0) 0 (vint w32 (ns .0))) ∷ ‵ (fdies (tyInt w32) (ls .0)) ∷ Γ in
-      reads-through (qed W (‵ (cells (suc k) ls ns) ∷ Γ) ∵ fsplit3 ! $ move ! (2 ∷ 0 ∷ 1 ∷ []) $ done !)
-      (qed W (‵ (cells k (ls .1) (ns .1)) ∷ first) ∵ move ! (1 ∷ 2 ∷ 0 ∷ []) $ fjoin3 ! $ done !)
+      let apart : ent 𝓤 (⋆ 𝓤 H A (‵ (cells (suc k) ls ns) ∷ Γ)) (⋆ 𝓤 H A (‵ (cells k (ls .1) (ns .1)) ∷ first)) =
+      qed W (‵ (cells (suc k) ls ns) ∷ Γ) ∵ fsplit3 ! $ move ! (2 ∷ 0 ∷ 1 ∷ []) $ done ! in
+      let together : ent 𝓤 (⋆ 𝓤 H A (‵ (cells k (ls .1) (ns .1)) ∷ first)) (⋆ 𝓤 H A (‵ (cells (suc k) ls ns) ∷ Γ)) =
+      qed W (‵ (cells k (ls .1) (ns .1)) ∷ first) ∵ move ! (1 ∷ 2 ∷ 0 ∷ []) $ fjoin3 ! $ done ! in
+      reads-through apart together
       (and-then t (load t (found t (sees 0) (stop t)) (look t 1 refl))
-      (read-numbers t k (ls .1) (ns .1) (λ i. at (suc i)) E rest (λ i. sees (suc i)) {Γ = first}))
+      (read-numbers t k (ls .1) (ns .1) (λ i. at (suc i)) E rest (λ i. sees (suc i)) {Γ = first} (reads-through together apart behind)))
 
   -- .. and at the end freed
   pub free-numbers : K → (k : ℕ) (ls ns : Nums k) {Γ : List (Item 𝓤)} {E : Env 𝓤 H} {g : Goal 𝓤 H}

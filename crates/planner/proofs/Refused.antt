@@ -3,7 +3,7 @@ use mathlib.Core.Path.{_≡_, sym, _∙_}
 use Prim.Native.Nat.{ℕ}
 use Rattle.basics.specs.Refusals.{answer-of}
 use Rattle.planner.specs.Open.{zeros, open-refusals, IsFresh, IsOpened}
-use Rattle.planner.specs.Facts.Open.{NumbersInRange, range-numbers, open-passes, open-in-range}
+use Rattle.planner.specs.Facts.Open.{NumbersInRange, range-numbers, open-exact}
 use Rattle.planner.specs.Content.{Content}
 use Rattle.planner.specs.Sound.{InRange}
 use Rattle.planner.specs.declared.Planner.{Planner}
@@ -20,8 +20,8 @@ module _ {s : Setting} {t : ℕ} {a : ℕ} (is : a ≡ answer-of (open-refusals 
 
   -- the code's answer tells whether the numbers are in range
   pub opened-range : a ≡ 0 → NumbersInRange s t
-  opened-range zero = open-in-range (sym is ∙ zero)
+  opened-range zero = open-exact .0 (sym is ∙ zero)
 
 -- a planner whose numbers open would refuse is not in range
 pub not-opened : (h : Content) {a : ℕ} → a ≡ answer-of (open-refusals (h .setting) (h .last)) → (a ≡ 0 → ⊥) → InRange h → ⊥
-not-opened h is some range = some (is ∙ sym (open-passes (range-numbers range)))
+not-opened h is some range = some (is ∙ open-exact .1 (range-numbers range))

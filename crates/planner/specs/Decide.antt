@@ -18,7 +18,7 @@ use Rattle.planner.specs.Content.{Content, content, slots-of, frame-of, 
 use Rattle.planner.specs.Sound.{InRange, ContentSound, entry-of, Files, Sound}
 use Rattle.planner.specs.declared.Setting.{Setting}
 use Rattle.planner.specs.Open.{open-refusals}
-use Rattle.planner.specs.Facts.Open.{NumbersInRange, range-numbers, in-range-by-numbers, open-passes, open-in-range}
+use Rattle.planner.specs.Facts.Open.{NumbersInRange, range-numbers, in-range-by-numbers, open-exact}
 use Rattle.planner.specs.declared.Planner.{Planner}
 use Rattle.rules.specs.Facts.LazyStart.{lazy-unique}
 use Rattle.planner.specs.Facts.Sound.{sound-start}
@@ -45,7 +45,7 @@ decide-near now rs =
 
 -- the numbers are in range exactly if open does not refuse them
 decide-numbers : (s : Setting) (t : ℕ) → Dec (NumbersInRange s t)
-decide-numbers s t = map-dec open-in-range (λ numbers. sym (open-passes numbers)) (ℕ-discrete (answer-of (open-refusals s t)) 0)
+decide-numbers s t = map-dec (open-exact .0) (open-exact .1) (ℕ-discrete (answer-of (open-refusals s t)) 0)
 
 decide-in-range : (h : Content) → Dec (InRange h)
 decide-in-range h =

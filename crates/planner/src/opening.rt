@@ -53,10 +53,11 @@ pub fn open_refusal(setting: Setting, last: u32) -> u32
     0
 }
 
-// A refused opening gives the closed planner: every number 0, no stream, an empty queue.
-fn open_with(setting: Setting, last: u32) -> Changed
-    ensures { λ r. ⌜ IsOpened setting last r ⌝ }
+// Annex 7.5 to 7.9: opens a planner with these numbers. A refused opening gives the closed planner: every number 0, no stream, an empty queue.
+pub fn open(slots: u32, frame: u32, gap: u32, last: u32) -> Changed
+    ensures { λ r. ⌜ IsOpened (setting slots frame gap) last r ⌝ }
 {
+    let setting = Setting { slots, frame, gap };
     let answer = open_refusal(setting, last);
     if answer != 0 {
         let zeros = Setting {
@@ -69,12 +70,4 @@ fn open_with(setting: Setting, last: u32) -> Changed
     }
     let planner = without_streams(setting, last);
     Changed { answer: 0, planner }
-}
-
-// Annex 7.5 to 7.9: opens a planner with these numbers.
-pub fn open(slots: u32, frame: u32, gap: u32, last: u32) -> Changed
-    ensures { λ r. ⌜ IsOpened (setting slots frame gap) last r ⌝ }
-{
-    let setting = Setting { slots, frame, gap };
-    open_with(setting, last)
 }

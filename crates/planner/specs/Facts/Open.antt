@@ -1,11 +1,12 @@
 -- A successful opening gives a sound planner, and the closed planner is not sound.
 use mathlib.Core.Path.{_≡_, refl, sym, subst, subst⁻¹, _∙_}
-use mathlib.Core.Logic.{∥∥₁-elim}
+use mathlib.Core.Logic.{_↔_, ∥∥₁-elim}
 use mathlib.Core.List.{List, List·Mem, List·Mem-prop, Pairwise·nil, not-mem-nil}
 use Prim.Native.Nat.{ℕ, _≤_, _<_}
 use native.Mathlib.Nat.{lt-irrefl, lt-of-lt-of-le}
 use native.Mathlib.Omega.{arith}
 use lib.ListN.{length}
+use Rattle.basics.specs.Limits.{last-start, places, most-slots, longest-frame, longest-gap}
 use Rattle.basics.specs.Facts.OneTo.{in-limit}
 use Rattle.basics.specs.Refusals.{answer-of, none, later}
 use Rattle.basics.specs.Facts.Refusals.{AllPass, AllNumbered, zero-all-pass, first-is-answer}
@@ -25,14 +26,14 @@ use Rattle.planner.specs.declared.Changed.{Changed}
 -- what is in range where open refuses nothing
 pub record NumbersInRange (s : Setting) (t : ℕ) : Type 0 where
   pub setting : SettingInRange s
-  pub last : t ≤ 1_000_000_000
+  pub last : t ≤ last-start
 
 -- the numbers of what is in range
 pub range-numbers : {h : Content} → InRange h → NumbersInRange (h .setting) (h .last)
 range-numbers range = record { setting = range .setting; last = range .last }
 
 -- with its numbers and its records in range, what a planner holds is
-pub in-range-by-numbers : {h : Content} → NumbersInRange (h .setting) (h .last) → length (h .table) ≤ 64 → RecordsInRange (frame-of h) (h .table) → InRange h
+pub in-range-by-numbers : {h : Content} → NumbersInRange (h .setting) (h .last) → length (h .table) ≤ places → RecordsInRange (frame-of h) (h .table) → InRange h
 in-range-by-numbers numbers few records = record { setting = numbers .setting; last = numbers .last; at-most = few; records = records }
 
 opened-sound : (s : Setting) (t : ℕ) → NumbersInRange s t → ContentSound (opened s t)
@@ -67,33 +68,30 @@ fresh-is-sound s t numbers p is =
 pub closed-is-not-sound : (p : Planner) → IsFresh zeros 0 p → Sound p → ⊥
 closed-is-not-sound p fresh sound = lt-irrefl 0 (subst (λ (h : Content). 1 ≤ h .setting .slots) (fresh .holds) (sound .content-sound .in-range .setting .slots .0))
 
-module _ {s : Setting} {t : ℕ} where
-  -- open refuses no numbers in range ..
-  pub open-passes : NumbersInRange s t → 0 ≡ answer-of (open-refusals s t)
-  open-passes numbers =
-      let set = numbers .setting in
-      first-is-answer
-      (later (λ bad. bad (set .slots)) (later (λ bad. bad (set .frame)) (later (λ bad. bad (set .gap))
-      (later (λ high. lt-irrefl 1_000_000_000 (lt-of-lt-of-le high (numbers .last))) none))))
-
-  -- .. and those that it does not refuse are
-  pub open-in-range : answer-of (open-refusals s t) ≡ 0 → NumbersInRange s t
-  unfolding AllNumbered AllPass
-  open-in-range zero =
+-- open answers 0 exactly if the numbers are in range
+pub open-exact : {s : Setting} {t : ℕ} → (answer-of (open-refusals s t) ≡ 0) ↔ NumbersInRange s t
+unfolding AllNumbered AllPass
+open-exact {s} {t} = (
+  λ zero.
       let pass = zero-all-pass (open-refusals s t) (omega arith, (omega arith, (omega arith, (omega arith, tt)))) zero in
       record {
         setting =
             record {
-              slots = in-limit 64 (s .slots) (pass .0);
-              frame = in-limit 5040 (s .frame) (pass .1 .0);
-              gap = in-limit 255 (s .gap) (pass .1 .1 .0);
+              slots = in-limit most-slots (s .slots) (pass .0);
+              frame = in-limit longest-frame (s .frame) (pass .1 .0);
+              gap = in-limit longest-gap (s .gap) (pass .1 .1 .0);
             };
         last = not-late t (pass .1 .1 .1 .0);
-      }
-    where
-      not-late : (n : ℕ) → (1_000_000_000 < n → ⊥) → n ≤ 1_000_000_000
-      not-late n early = omega arith
+      },
+  λ numbers.
+      let set = numbers .setting in
+      let in-time : last-start < t → ⊥ = λ late. lt-irrefl last-start (lt-of-lt-of-le late (numbers .last)) in
+      sym (first-is-answer (later (λ bad. bad (set .slots)) (later (λ bad. bad (set .frame)) (later (λ bad. bad (set .gap)) (later in-time none))))),
+)
+  where
+    not-late : (n : ℕ) → (last-start < n → ⊥) → n ≤ last-start
+    not-late n early = omega arith
 
 -- Annex 7.9: the planner that a successful open hands back is sound
 pub open-success-is-sound : (s : Setting) (t : ℕ) (r : Changed) → IsOpened s t r → r .answer ≡ 0 → Sound (r .planner)
-open-success-is-sound s t r is zero = let none = sym (is .answer) ∙ zero in fresh-is-sound s t (open-in-range none) (r .planner) (is .opened none)
+open-success-is-sound s t r is zero = let none = sym (is .answer) ∙ zero in fresh-is-sound s t (open-exact .0 none) (r .planner) (is .opened none)

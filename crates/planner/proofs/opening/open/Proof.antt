@@ -1,8 +1,8 @@
--- `planner::opening::open_with` meets its contract: refused, it gives the closed planner; else the planner asked for.
+-- `planner::opening::open` meets its contract: refused, it gives the closed planner; else the planner asked for.
 use Rattle.planner.proofs.Refused.{open-refused, open-done}
 use borrow.Author.Needs.{needs}
-use Rattle.planner.proofs.opening.open_with.Statement.{statement}
-use Rattle.planner.proofs.opening.open_with.Tie as tie
+use Rattle.planner.proofs.opening.open.Statement.{statement}
+use Rattle.planner.proofs.opening.open.Tie as tie
 
 open-refusal-requires : tie.Need-open-refusal-requires
 open-refusal-requires c κs = search needs
@@ -19,8 +19,8 @@ without-streams-requires-2 c κs = search needs
 returns-2 : tie.Need-returns-2
 returns-2 c = open-done (c .before .before .open-refusal .ensures) (c .before .if1 .left) (c .without-streams2 .ensures)
 
-pub open-with-spec : {M : Type 1} → statement M
-open-with-spec =
+pub open-spec : {M : Type 1} → statement M
+open-spec =
     tie.close
     (tie.spec
     open-refusal-requires

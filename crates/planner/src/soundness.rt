@@ -39,5 +39,5 @@ pub fn sound_start(p: Planner) -> u32
         return 0;
     }
     // The gap runs from the end of the last round, which is now. The sum is at most 1,000,000,256.
-    table::next_start_in_range(table, setting.slots, now, now + setting.gap, busy)
+    table::next_start_in_range(table, setting.slots, now, now + p.setting.gap, busy)
 }

@@ -9,7 +9,8 @@ ghost use Rattle.basics.specs.OneTo.{OneTo};
 ghost use Rattle.basics.specs.Places.{Rises, IsPlaceAmong, IsUpper};
 
 // Limits that several crates share: no round starts later than the last start; a table and a queue have so many places; a round has at most so
-// many slots; no id, superframe, gap or period is larger; no release is further after now; no two keys of a queue are further apart.
+// many slots; no id, superframe, gap or period is larger; no release is further after now; no key of a queue is larger, and no two are further
+// apart; a queue has so many buckets.
 pub const LAST_START: u32 = 1_000_000_000;
 
 pub const PLACES: usize = 64;
@@ -26,7 +27,23 @@ pub const LONGEST_PERIOD: u32 = 240;
 
 pub const FURTHEST_RELEASE: u32 = 239;
 
+pub const LARGEST_KEY: u32 = 2_000_000_000;
+
 pub const KEY_SPAN: u32 = 479;
+
+pub const BUCKETS: u32 = KEY_SPAN + 1;
+
+// The same in other widths: the largest id in 16 bits, as ids are stored; the largest key and the span in 64, as the sum of two keys is; the
+// buckets as a count of turns, and the number of the last one, since the first is 0.
+pub const LARGEST_ID_16: u16 = LARGEST_ID as u16;
+
+pub const LARGEST_KEY_64: u64 = LARGEST_KEY as u64;
+
+pub const KEY_SPAN_64: u64 = KEY_SPAN as u64;
+
+pub const BUCKET_COUNT: usize = BUCKETS as usize;
+
+pub const LAST_BUCKET: usize = KEY_SPAN as usize;
 
 // Whether a number is 1 to a limit.
 pub fn is_one_to(n: u32, most: u32) -> bool

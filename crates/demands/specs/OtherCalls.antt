@@ -6,6 +6,7 @@ use mathlib.Core.List.{List, [], _∷_, _++_}
 use Prim.Native.Nat.{ℕ, _<_}
 use lib.ListN.{take}
 use Rattle.basics.specs.Refusals.{Refusal, FirstOf}
+use Rattle.basics.specs.Limits.{longest-frame}
 use Rattle.places.specs.Order.{Entry, triple}
 use Rattle.places.specs.Entries.{put, without, after}
 use Rattle.queue.specs.Layout.{entries}
@@ -43,7 +44,11 @@ bad-period periods = record { number = 18; Applies = AllInRange periods → ⊥;
 -- Annex 9.3: 19 if the least common multiple, which periods in range have, is above 5,040.
 abbrev pub above-limit : List ℕ → Refusal
 above-limit periods =
-    record { number = 19; Applies = AllInRange periods → (m : ℕ) → IsLcm periods m → 5040 < m; decided = decide-above periods (decide-in-range periods) }
+    record {
+      number = 19;
+      Applies = AllInRange periods → (m : ℕ) → IsLcm periods m → longest-frame < m;
+      decided = decide-above periods (decide-in-range periods);
+    }
 
 -- Annex 9.2, 9.3: superframe refuses 18, then 19.
 abbrev pub superframe-refusals : List ℕ → List Refusal

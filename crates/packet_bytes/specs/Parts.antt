@@ -4,6 +4,10 @@ use Prim.Native.Nat.{ℕ, _+_, _*_}
 use lib.ListN.{getD, drop}
 use Rattle.packet_bytes.specs.Layout.{Values}
 
+-- The largest number in a byte, and so the largest n that a packet can say.
+abbrev pub largest-byte : ℕ
+largest-byte = 255
+
 -- The ids in a list of bytes, two bytes each; a byte left over is passed over.
 unfoldable pub ids-in : List ℕ → List ℕ
 ids-in [] = []

@@ -4,11 +4,11 @@ ghost use mathlib.Core.List.{_++_};
 ghost use Prim.Native.Nat.{_+_, _*_, _≤_};
 ghost use lib.ListN.{length, take, drop};
 ghost use Rattle.packet_bytes.specs.Layout.{header-bytes, id-bytes};
-ghost use Rattle.packet_bytes.specs.Parts.{start-in, ids-in};
+ghost use Rattle.packet_bytes.specs.Parts.{largest-byte, start-in, ids-in};
 
 // A byte in 32 bits.
 pub fn wide(x: u8) -> u32
-    ensures { λ r. ⌜ (r ≡ x) × (r ≤ 255) ⌝ }
+    ensures { λ r. ⌜ (r ≡ x) × (r ≤ largest-byte) ⌝ }
 {
     x as u32
 }
@@ -57,7 +57,7 @@ pub fn start_of_header(packet: &[u8]) -> u32
 
 // The ids in a part of n pairs of bytes, in the first n places: no packet says more than 255.
 pub fn ids_of_pairs(part: &[u8], n: usize) -> [u16; 255]
-    requires { ⌜ (length (now part) ≡ 2 * n) × (n ≤ 255) ⌝ }
+    requires { ⌜ (length (now part) ≡ 2 * n) × (n ≤ largest-byte) ⌝ }
     ensures { λ r. ⌜ take n r ≡ ids-in (now (part .entry)) ⌝ }
 {
     let mut ids = [0u16; 255];

@@ -4,17 +4,18 @@ use mathlib.Core.List.{List, List·Mem, List·Nodup}
 use Prim.Native.Nat.{ℕ, _≤_}
 use lib.ListN.{length}
 use Rattle.basics.specs.Limits.{last-start, most-slots, largest-id}
+use Rattle.basics.specs.OneTo.{OneTo}
 use Rattle.packet_bytes.specs.Layout.{Values, bytes-of}
 
 -- Annex 10.3: the ids of a good packet: each is 1 to 32,767, and none stands twice.
 pub record IdsGood (ids : List ℕ) : Type 0 where
-  pub range : (id : ℕ) → List·Mem id ids → (1 ≤ id) × (id ≤ largest-id)
+  pub range : (id : ℕ) → List·Mem id ids → OneTo largest-id id
   pub once : List·Nodup ids
 
 -- Annex 10.3: a good packet's values: the start is at most 1,000,000,000, B is 1 to 64, n is at most B, and the ids are good.
 pub record IsGood (v : Values) : Type 0 where
   pub start : v .start ≤ last-start
-  pub slots : (1 ≤ v .slots) × (v .slots ≤ most-slots)
+  pub slots : OneTo most-slots (v .slots)
   pub count : length (v .ids) ≤ v .slots
   pub ids : IdsGood (v .ids)
 

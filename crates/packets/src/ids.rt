@@ -5,8 +5,7 @@ ghost use lib.ListN.{length, getD, take};
 ghost use Rattle.basics.specs.Decides.{Decides};
 ghost use Rattle.packets.specs.Good.{IdsGood};
 ghost use Rattle.packets.specs.Met.{HasMet};
-
-const LARGEST_ID: u16 = 32767;
+use basics::LARGEST_ID_16;
 
 // Whether the id at a place stands at an earlier one too. Every earlier place is looked at: a loop that cannot be left compares many at once.
 fn stands_before(ids: &[u16], i: usize) -> bool
@@ -48,7 +47,7 @@ pub fn ids_are_good(ids: &[u16]) -> bool
         if id < 1 {
             return false;
         }
-        if LARGEST_ID < id {
+        if LARGEST_ID_16 < id {
             return false;
         }
         if is_met(&met, ids, i) {

@@ -8,6 +8,7 @@ ghost use Rattle.packets.specs.Reading.{read-refusals, IsRead, ids-part}
 ghost use Rattle.packets.specs.Writing.{IsWritten};
 use basics::LAST_START;
 use basics::MOST_SLOTS;
+use basics::is_one_to;
 use ids::ids_are_good;
 use packet_bytes::ids_of_pairs;
 use packet_bytes::start_of_header;
@@ -33,10 +34,7 @@ fn are_good(start: u32, slots: u32, ids: &[u16]) -> bool
     if LAST_START < start {
         return false;
     }
-    if slots < 1 {
-        return false;
-    }
-    if MOST_SLOTS < slots {
+    if !is_one_to(slots, MOST_SLOTS) {
         return false;
     }
     if (slots as usize) < ids.len() {

@@ -4,6 +4,7 @@ use mathlib.Core.Logic.{ite}
 use mathlib.Core.List.{List, []}
 use Prim.Native.Nat.{ℕ, zero, suc, _≤_, _<_}
 use native.Mathlib.Decide.{decLe}
+use Rattle.basics.specs.Limits.{places}
 use Rattle.places.specs.Order.{Entry}
 use Rattle.places.specs.Entries.{put}
 
@@ -14,4 +15,4 @@ collected at (suc i) = ite (decLe 1 (at i .id)) (put (at i) (collected at i)) (c
 
 -- Annex 8.4: ids differ from place to place.
 abbrev pub Once : (ids : ℕ → ℕ) → Type 0
-Once ids = (i j : ℕ) → i < 64 → j < 64 → 1 ≤ ids i → ids i ≡ ids j → i ≡ j
+Once ids = (i j : ℕ) → i < places → j < places → 1 ≤ ids i → ids i ≡ ids j → i ≡ j

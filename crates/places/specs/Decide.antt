@@ -4,7 +4,7 @@ use mathlib.Core.Logic.{Dec·and}
 use mathlib.Core.List.{List, decidableBAll, decidableBEx}
 use Prim.Native.Nat.{ℕ, _+_, _≤_}
 use native.Mathlib.Decide.{decLe, ℕ-discrete, map-dec}
-use Rattle.basics.specs.Limits.{key-span, largest-key}
+use Rattle.basics.specs.Limits.{key-span, largest-key, largest-id, places}
 use Rattle.basics.specs.Below.{decide-below, decide-implies}
 use Rattle.places.specs.Order.{Entry}
 use Rattle.places.specs.Entries.{Filed, InBounds}
@@ -28,7 +28,7 @@ decide-in-bounds es =
 decide-full : (ids : ℕ → ℕ) (P : ℕ → Type 0) → ((i : ℕ) → Dec (P i)) → Dec ((i : ℕ) → Full ids i → P i)
 decide-full ids P decide =
     map-dec (λ all i holds. all i (holds .0) (holds .1)) (λ all i below some. all i (below, some))
-    (decide-below (λ i. 1 ≤ ids i → P i) (λ i. decide-implies (decLe 1 (ids i)) (decide i)) 64)
+    (decide-below (λ i. 1 ≤ ids i → P i) (λ i. decide-implies (decLe 1 (ids i)) (decide i)) places)
 
 -- whether ids, keys and releases at 64 places are sound can be decided
 pub decide-places-sound : (ids keys releases : ℕ → ℕ) → Dec (PlacesSound ids keys releases)
@@ -42,7 +42,7 @@ decide-places-sound ids keys releases =
       span = λ i j hi hj. w .1 .1 .1 .1 i hi j hj;
     })
     (λ s. (s .ids-in-range, ((λ i hi j hj. s .once i j hi hj), (s .keys-in-range, (s .released, λ i hi j hj. s .span i j hi hj)))))
-    (Dec·and (decide-full ids (λ i. ids i ≤ 32767) (λ i. decLe (ids i) 32767))
+    (Dec·and (decide-full ids (λ i. ids i ≤ largest-id) (λ i. decLe (ids i) largest-id))
     (Dec·and (decide-full ids (λ i. (j : ℕ) → Full ids j → ids i ≡ ids j → i ≡ j)
     (λ i. decide-full ids (λ j. ids i ≡ ids j → i ≡ j) (λ j. decide-implies (ℕ-discrete (ids i) (ids j)) (ℕ-discrete i j))))
     (Dec·and (decide-full ids (λ i. keys i ≤ largest-key) (λ i. decLe (keys i) largest-key))

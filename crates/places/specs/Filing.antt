@@ -22,8 +22,8 @@ pub record CanFile (ids keys releases : List ℕ) (n : ℕ) : Type 0 where
 
 -- r is which of the first n rows this entry is, or 64 where it is none of them.
 pub record IsRow (ids keys releases : List ℕ) (n : ℕ) (e : Entry) (r : ℕ) : Type 0 where
-  pub found : (r ≡ 64 → ⊥) → (r < n) × (row-of ids keys releases r ≡ e)
-  pub absent : r ≡ 64 → (i : ℕ) → i < n → row-of ids keys releases i ≡ e → ⊥
+  pub found : (r ≡ places → ⊥) → (r < n) × (row-of ids keys releases r ≡ e)
+  pub absent : r ≡ places → (i : ℕ) → i < n → row-of ids keys releases i ≡ e → ⊥
 
 -- A place that holds an entry, said of entries by place.
 abbrev pub Filled : (ℕ → Entry) → ℕ → Type 0

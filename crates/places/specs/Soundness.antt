@@ -2,7 +2,7 @@
 use mathlib.Core.Path.{_≡_}
 use mathlib.Core.Logic.{_⊎_}
 use Prim.Native.Nat.{ℕ, _+_, _≤_, _<_}
-use Rattle.basics.specs.Limits.{largest-id, key-span, largest-key}
+use Rattle.basics.specs.Limits.{largest-id, key-span, largest-key, places}
 use Rattle.basics.specs.Below.{Below}
 
 -- A free place has no key, so none that is too large.
@@ -11,7 +11,7 @@ KeyWithin id key top = 1 ≤ id → key ≤ top
 
 -- No place that holds an entry has a number above its bound.
 abbrev pub AllWithin : (ids values tops : ℕ → ℕ) → Type 0
-AllWithin ids values tops = Below 64 (λ i. KeyWithin (ids i) (values i) (tops i))
+AllWithin ids values tops = Below places (λ i. KeyWithin (ids i) (values i) (tops i))
 
 -- No key of an entry is above the one bound.
 abbrev pub KeysWithin : (ids keys : ℕ → ℕ) → ℕ → Type 0
@@ -31,7 +31,7 @@ pub record IsLeast (ids keys : ℕ → ℕ) (n r : ℕ) : Type 0 where
 
 -- A place that holds an entry: its id is not 0.
 abbrev pub Full : (ids : ℕ → ℕ) → ℕ → Type 0
-Full ids i = (i < 64) × (1 ≤ ids i)
+Full ids i = (i < places) × (1 ≤ ids i)
 
 -- No two keys of entries are more than 479 apart.
 abbrev pub ShortSpan : (ids keys : ℕ → ℕ) → Type 0

@@ -2,8 +2,11 @@
 ghost use mathlib.Core.Path.{_≡_};
 ghost use Prim.Native.Nat.{_+_, _<_};
 ghost use Rattle.basics.specs.Decides.{Decides};
-ghost use Rattle.places.specs.Changes.{IsPlaceOf, PlaceFits, KeyFits};
-use super::soundness::KEY_LIMIT;
+ghost use Rattle.basics.specs.Limits.{places};
+ghost use Rattle.places.specs.Changes.{IsPlaceOf, IsPlaceHolding, PlaceFits, KeyFits};
+use basics::KEY_SPAN_64;
+use basics::LARGEST_KEY_64;
+use basics::PLACES;
 use basics::wide;
 
 // The place of an id, or 64 where no place has it; of id 0, the first free place.
@@ -11,13 +14,23 @@ pub fn place_of(ids: &[u16; 64], id: u32) -> usize
     ensures { λ r. ⌜ IsPlaceOf (now (ids .entry)) id r ⌝ }
 {
     let mut i = 0;
-    while i < 64 {
+    while i < PLACES {
         if wide(ids[i]) == id {
             return i;
         }
         i += 1;
     }
-    64
+    PLACES
+}
+
+// The place that holds an id, or 64 where none does; id 0 stands at free places, so none holds it.
+pub fn place_holding(ids: &[u16; 64], id: u32) -> usize
+    ensures { λ r. ⌜ IsPlaceHolding (now (ids .entry)) id r ⌝ }
+{
+    if id < 1 {
+        return PLACES;
+    }
+    place_of(ids, id)
 }
 
 // A key in 64 bits, as the sum of two is.
@@ -36,7 +49,7 @@ pub fn sum(a: u32, b: u32) -> u64
 
 // Whether the key at place i leaves `key` within the span.
 fn place_fits<'a>(ids: &'a [u16; 64], keys: &'a [u32; 64], out: usize, key: u64, i: usize) -> bool
-    requires { ⌜ i < 64 ⌝ }
+    requires { ⌜ i < places ⌝ }
     ensures { λ r. ⌜ Decides r (PlaceFits (now (ids .entry)) (now (keys .entry)) out key i) ⌝ }
 {
     if i == out {
@@ -47,12 +60,12 @@ fn place_fits<'a>(ids: &'a [u16; 64], keys: &'a [u32; 64], out: usize, key: u64,
     }
     let there = wide_key(keys[i]);
     if there < key {
-        if 479 < key - there {
+        if KEY_SPAN_64 < key - there {
             return false;
         }
         return true;
     }
-    if 479 < there - key {
+    if KEY_SPAN_64 < there - key {
         return false;
     }
     true
@@ -62,11 +75,11 @@ fn place_fits<'a>(ids: &'a [u16; 64], keys: &'a [u32; 64], out: usize, key: u64,
 pub fn key_fits<'a>(ids: &'a [u16; 64], keys: &'a [u32; 64], out: usize, key: u64) -> bool
     ensures { λ r. ⌜ Decides r (KeyFits (now (ids .entry)) (now (keys .entry)) out key) ⌝ }
 {
-    if (KEY_LIMIT as u64) < key {
+    if LARGEST_KEY_64 < key {
         return false;
     }
     let mut i = 0;
-    while i < 64 {
+    while i < PLACES {
         if !place_fits(ids, keys, out, key, i) {
             return false;
         }

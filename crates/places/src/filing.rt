@@ -3,6 +3,7 @@ ghost use Rattle.basics.specs.Decides.{Decides};
 ghost use Rattle.places.specs.Order.{triple};
 ghost use Rattle.places.specs.Entries.{row-of};
 ghost use Rattle.places.specs.Filing.{CanFile, IsRow, PlacesFile};
+use basics::PLACES;
 use basics::place_among_rising;
 use basics::wide;
 
@@ -21,16 +22,16 @@ fn row_in_range<'a>(
 {
     let i = place_among_rising(ids, id);
     if count <= i {
-        return 64;
+        return PLACES;
     }
     if ids[i] != id {
-        return 64;
+        return PLACES;
     }
     if keys[i] != key {
-        return 64;
+        return PLACES;
     }
     if releases[i] != release {
-        return 64;
+        return PLACES;
     }
     i
 }
@@ -51,11 +52,11 @@ pub fn places_file_in_range<'a>(
     let mut met = [0u8; 64];
     let mut n: usize = 0;
     let mut x: usize = 0;
-    while x < 64 {
+    while x < PLACES {
         let id = wide(filed[x]);
         if 0 < id {
             let i = row_in_range(ids, keys, releases, count, id, under[x], since[x]);
-            if i == 64 {
+            if i == PLACES {
                 return false;
             }
             if met[i] != 0 {

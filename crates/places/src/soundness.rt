@@ -2,22 +2,23 @@
 ghost use Prim.Native.Nat.{_≤_};
 ghost use Rattle.basics.specs.Below.{Below};
 ghost use Rattle.basics.specs.Decides.{Decides};
+ghost use Rattle.basics.specs.Limits.{places, largest-id, largest-key};
 ghost use Rattle.basics.specs.NewIds.{at, New};
 ghost use Rattle.places.specs.Soundness.{KeyWithin, AllWithin, KeysWithin, IsLesser, IsLeast, ShortSpan, PlacesSound};
 use basics::KEY_SPAN;
+use basics::LARGEST_ID_16;
+use basics::LARGEST_KEY;
+use basics::PLACES;
 use basics::is_new_at;
-
-// The largest key that may be filed.
-pub const KEY_LIMIT: u32 = 2_000_000_000;
 
 // Whether no id is above 32,767.
 fn ids_in_range(ids: &[u16; 64]) -> bool
-    ensures { λ r. ⌜ Decides r (Below 64 (λ i. at (now (ids .entry)) i ≤ 32767)) ⌝ }
+    ensures { λ r. ⌜ Decides r (Below places (λ i. at (now (ids .entry)) i ≤ largest-id)) ⌝ }
 {
     let mut i: usize = 0;
-    while i < 64 {
+    while i < PLACES {
         let id = ids[i];
-        if 32767 < id {
+        if LARGEST_ID_16 < id {
             return false;
         }
         i += 1;
@@ -27,10 +28,10 @@ fn ids_in_range(ids: &[u16; 64]) -> bool
 
 // Whether no id stands at two places.
 fn ids_differ(ids: &[u16; 64]) -> bool
-    ensures { λ r. ⌜ Decides r (Below 64 (New (at (now (ids .entry))))) ⌝ }
+    ensures { λ r. ⌜ Decides r (Below places (New (at (now (ids .entry))))) ⌝ }
 {
     let mut i: usize = 0;
-    while i < 64 {
+    while i < PLACES {
         if !is_new_at(ids, i) {
             return false;
         }
@@ -54,7 +55,7 @@ fn all_within<'a>(ids: &'a [u16; 64], values: &'a [u32; 64], tops: &'a [u32; 64]
     ensures { λ r. ⌜ Decides r (AllWithin (at (now (ids .entry))) (at (now (values .entry))) (at (now (tops .entry)))) ⌝ }
 {
     let mut i: usize = 0;
-    while i < 64 {
+    while i < PLACES {
         if !key_is_within(ids[i], values[i], tops[i]) {
             return false;
         }
@@ -86,11 +87,11 @@ fn lesser(id: u16, key: u32, m: u32) -> u32
 
 // Starts at the limit on keys, which is the answer where no place holds an entry, and leaves room for the span above it.
 pub fn least_key<'a>(ids: &'a [u16; 64], keys: &'a [u32; 64]) -> u32
-    ensures { λ r. ⌜ IsLeast (at (now (ids .entry))) (at (now (keys .entry))) 64 r ⌝ }
+    ensures { λ r. ⌜ IsLeast (at (now (ids .entry))) (at (now (keys .entry))) places r ⌝ }
 {
-    let mut m: u32 = KEY_LIMIT;
+    let mut m: u32 = LARGEST_KEY;
     let mut i: usize = 0;
-    while i < 64 {
+    while i < PLACES {
         m = lesser(ids[i], keys[i], m);
         i += 1;
     }
@@ -99,7 +100,7 @@ pub fn least_key<'a>(ids: &'a [u16; 64], keys: &'a [u32; 64]) -> u32
 
 // No key may lie more than 479 above the least.
 fn span_is_short<'a>(ids: &'a [u16; 64], keys: &'a [u32; 64]) -> bool
-    requires { ⌜ KeysWithin (at (now ids)) (at (now keys)) 2_000_000_000 ⌝ }
+    requires { ⌜ KeysWithin (at (now ids)) (at (now keys)) largest-key ⌝ }
     ensures { λ r. ⌜ Decides r (ShortSpan (at (now (ids .entry))) (at (now (keys .entry)))) ⌝ }
 {
     let least = least_key(ids, keys);
@@ -120,7 +121,7 @@ pub fn places_are_sound<'a>(
     if !ids_differ(ids) {
         return false;
     }
-    if !keys_are_within(ids, keys, KEY_LIMIT) {
+    if !keys_are_within(ids, keys, LARGEST_KEY) {
         return false;
     }
     if !all_within(ids, releases, keys) {

@@ -1,14 +1,15 @@
 -- The answers of insert, delete and move: each test of the code, in its order, is a refusal of the list.
 use mathlib.Core.Path.{_≡_, refl, sym, _∙_}
-use mathlib.Core.Logic.{Dec·and, Dec·not-not}
+use mathlib.Core.Logic.{Dec·not-not}
 use mathlib.Core.List.{List, [], _∷_}
 use Prim.Native.Nat.{ℕ, _≤_, _<_}
 use native.Mathlib.Nat.{lt-irrefl}
-use native.Mathlib.Decide.{decLe}
 use native.Mathlib.Omega.{arith}
 use lib.ListN.{length}
 use Rattle.basics.specs.Refusals.{Refusal, answer-of}
 use Rattle.basics.specs.Facts.Refusals.{answer-first, answer-later, answer-zero}
+use Rattle.basics.specs.Limits.{largest-id, places}
+use Rattle.basics.specs.OneTo.{OneTo, decide-one-to}
 use Rattle.places.specs.Order.{Entry, triple}
 use Rattle.places.specs.Entries.{put, Filed, InBounds}
 use Rattle.places.specs.Decide.{decide-filed, decide-in-bounds}
@@ -117,20 +118,20 @@ module _ (q : Queue) (id key release : ℕ) where
 
   module _ (sound : Sound q) where
     -- with a sound queue and an id that is not 1 to 32,767 insert answers 6
-    pub insert-answers-6 : (((1 ≤ id) × (id ≤ 32767)) → ⊥) → 6 ≡ answer-of (insert-refusals q id key release)
+    pub insert-answers-6 : (OneTo largest-id id → ⊥) → 6 ≡ answer-of (insert-refusals q id key release)
     insert-answers-6 bad = sym (passes-5 q (bad-id id ∷ from-21) sound ∙ answer-first (bad-id id) from-21 bad)
 
-    module _ (range : (1 ≤ id) × (id ≤ 32767)) where
+    module _ (range : OneTo largest-id id) where
       past-6 : answer-of (insert-refusals q id key release) ≡ answer-of from-21
       past-6 = passes-5 q (bad-id id ∷ from-21) sound ∙ answer-later (bad-id id) from-21 (λ bad. bad range)
 
       -- with an id in range and 64 entries filed, or more, it answers 21
-      pub insert-answers-21 : 64 ≤ length (entries q) → 21 ≡ answer-of (insert-refusals q id key release)
+      pub insert-answers-21 : places ≤ length (entries q) → 21 ≡ answer-of (insert-refusals q id key release)
       insert-answers-21 all = sym (past-6 ∙ answer-first (full (entries q)) from-22 all)
 
-      module _ (room : length (entries q) < 64) where
+      module _ (room : length (entries q) < places) where
         past-21 : answer-of (insert-refusals q id key release) ≡ answer-of from-22
-        past-21 = past-6 ∙ answer-later (full (entries q)) from-22 (λ all. lt-irrefl 64 (omega arith))
+        past-21 = past-6 ∙ answer-later (full (entries q)) from-22 (λ all. lt-irrefl places (omega arith))
 
         -- with room for one more and the id filed, it answers 22
         pub insert-answers-22 : Filed id (entries q) → 22 ≡ answer-of (insert-refusals q id key release)
@@ -153,7 +154,7 @@ module _ (q : Queue) (id key release : ℕ) where
   insert-can zero =
       let s = zero-sound q (bad-id id ∷ from-21) zero in
       let r = answer-zero (bad-id id) from-21 (λ e. not-zero 6 (omega arith) e) (s .1) in
-      let range = Dec·not-not (Dec·and (decLe 1 id) (decLe id 32767)) .0 (r .0) in
+      let range = Dec·not-not (decide-one-to largest-id id) .0 (r .0) in
       let f = answer-zero (full (entries q)) from-22 (λ e. not-zero 21 (omega arith) e) (r .1) in
       let n = answer-zero (filed id (entries q)) from-23 (λ e. not-zero 22 (omega arith) e) (f .1) in
       record {
@@ -165,5 +166,5 @@ module _ (q : Queue) (id key release : ℕ) where
         bounds = last-23 (put (triple key release id) (entries q)) (n .1);
       }
     where
-      less : (n : ℕ) → (64 ≤ n → ⊥) → n < 64
+      less : (n : ℕ) → (places ≤ n → ⊥) → n < places
       less n other = omega arith

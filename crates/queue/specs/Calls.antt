@@ -1,12 +1,13 @@
 -- What each call of the queue answers and leaves: Annex, chapter 8.
 use mathlib.Core.Path.{_≡_}
-use mathlib.Core.Logic.{Dec·and, Dec·not}
+use mathlib.Core.Logic.{Dec·not}
 use mathlib.Core.List.{List, [], _∷_}
 use Prim.Native.Nat.{ℕ, _≤_}
 use native.Mathlib.Decide.{decLe}
 use lib.ListN.{length}
 use Rattle.basics.specs.Limits.{places, largest-id}
 use Rattle.basics.specs.Refusals.{Refusal, answer-of}
+use Rattle.basics.specs.OneTo.{not-in}
 use Rattle.places.specs.Order.{Entry, triple}
 use Rattle.places.specs.Entries.{put, without, after, filed-as, moved-on, Filed, InBounds}
 use Rattle.places.specs.Decide.{decide-filed, decide-in-bounds}
@@ -22,7 +23,7 @@ unsound q = record { number = 5; Applies = Sound q → ⊥; decided = Dec·not (
 
 -- Annex 8.10: 6 unless the id is 1 to 32,767.
 abbrev pub bad-id : ℕ → Refusal
-bad-id id = record { number = 6; Applies = ((1 ≤ id) × (id ≤ largest-id)) → ⊥; decided = Dec·not (Dec·and (decLe 1 id) (decLe id largest-id)) }
+bad-id id = not-in 6 largest-id id
 
 -- Annex 8.10: 21 if 64 entries are filed, or more, for which a queue has no place.
 abbrev pub full : List Entry → Refusal

@@ -3,7 +3,7 @@ use mathlib.Core.Path.{_≡_}
 use Prim.Native.Nat.{ℕ, zero, suc, _+_, _≤_, _<_}
 use mathlib.Core.List.{List}
 use lib.ListN.{length, getD, set}
-use Rattle.basics.specs.Limits.{places, largest-id}
+use Rattle.basics.specs.Limits.{places, largest-id, key-span}
 use Rattle.places.specs.Order.{Entry, Before, triple}
 use Rattle.places.specs.Entries.{put, Filed, InBounds}
 use Rattle.queue.specs.Calls.{moved, HasEntries}
@@ -14,15 +14,15 @@ use Rattle.queue.specs.declared.Placed.{Placed}
 
 -- The arrays are as long as their types say.
 pub record HasShape (q : Queue) : Type 0 where
-  pub ids : length (q .ids) ≡ 64
-  pub keys : length (q .keys) ≡ 64
-  pub releases : length (q .releases) ≡ 64
+  pub ids : length (q .ids) ≡ places
+  pub keys : length (q .keys) ≡ places
+  pub releases : length (q .releases) ≡ places
   pub next : length (q .next) ≡ 544
   pub prev : length (q .prev) ≡ 544
 
 -- x is a place, and n and what is linked before it are below 544, as nodes are.
 abbrev pub CanLink : (prev : List ℕ) → ℕ → ℕ → Type 0
-CanLink prev x n = (x < 64) × (n < 544) × (getD prev n 0 < 544)
+CanLink prev x n = (x < places) × (n < 544) × (getD prev n 0 < 544)
 
 -- The links with x put between n and the node before it.
 abbrev pub linked-next : (next prev : List ℕ) → ℕ → ℕ → List ℕ
@@ -33,7 +33,7 @@ linked-prev prev x n = set (set prev n x) x (getD prev n 0)
 
 -- x is a place, and what is linked on both sides of it is below 544, as nodes are.
 abbrev pub CanUnlink : (next prev : List ℕ) → ℕ → Type 0
-CanUnlink next prev x = (x < 64) × (getD next x 0 < 544) × (getD prev x 0 < 544)
+CanUnlink next prev x = (x < places) × (getD next x 0 < 544) × (getD prev x 0 < 544)
 
 -- The links with x taken out from between its neighbours, and zeros there.
 abbrev pub unlinked-next : (next prev : List ℕ) → ℕ → List ℕ
@@ -82,13 +82,13 @@ pub record IsPosition (q : Queue) (key rank n : ℕ) : Type 0 where
 pub record IsNewRank (q : Queue) (rank : ℕ) : Type 0 where
   pub some : 1 ≤ rank
   pub small : rank < 65_536_000_032_768
-  pub unused : (i : ℕ) → i < 64 → rank-at q i ≡ rank → ⊥
+  pub unused : (i : ℕ) → i < places → rank-at q i ≡ rank → ⊥
 
 -- An id in range that no place has.
 pub record IsNew (q : Queue) (id : ℕ) : Type 0 where
   pub some : 1 ≤ id
   pub small : id ≤ largest-id
-  pub unused : (i : ℕ) → i < 64 → id-at q i ≡ id → ⊥
+  pub unused : (i : ℕ) → i < places → id-at q i ≡ id → ⊥
 
 -- What insert, delete and move need beyond a sound queue: that no refusal applies.
 pub record CanInsert (q : Queue) (e : Entry) : Type 0 where
@@ -138,14 +138,14 @@ pub record CanMoveAll (q : Queue) (placed : Placed) (amounts : List ℕ) (n : �
 
 -- Every entry after a point has its key among the 480 from a given key on.
 abbrev pub SearchFrom : Queue → ℕ → Entry → Type 0
-SearchFrom q from point = (i : ℕ) → Holds q i → Before point (entry-at q i) → (from ≤ key-at q i) × (key-at q i ≤ from + 479)
+SearchFrom q from point = (i : ℕ) → Holds q i → Before point (entry-at q i) → (from ≤ key-at q i) × (key-at q i ≤ from + key-span)
 
 -- x is the place of the first entry after a point, or 64 where none is after it.
 pub record IsFirstAfter (q : Queue) (point : Entry) (x : ℕ) : Type 0 where
-  pub within : x ≤ 64
-  pub found : x < 64 → Holds q x × Before point (entry-at q x)
-  pub first : x < 64 → (i : ℕ) → Holds q i → Before point (entry-at q i) → Before (entry-at q i) (entry-at q x) → ⊥
-  pub none : x ≡ 64 → (i : ℕ) → Holds q i → Before point (entry-at q i) → ⊥
+  pub within : x ≤ places
+  pub found : x < places → Holds q x × Before point (entry-at q x)
+  pub first : x < places → (i : ℕ) → Holds q i → Before point (entry-at q i) → Before (entry-at q i) (entry-at q x) → ⊥
+  pub none : x ≡ places → (i : ℕ) → Holds q i → Before point (entry-at q i) → ⊥
 
 -- A node in the bucket of a key that some entry has.
 pub record StandsAt (q : Queue) (key n : ℕ) : Type 0 where

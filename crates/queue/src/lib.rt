@@ -9,6 +9,7 @@ ghost use Rattle.queue.specs.Layout.{entries, empty-queue};
 ghost use Rattle.queue.specs.Calls.{insert-refusals, delete-refusals, move-refusals, moved, IsChange, least-of, next-of};
 use basics::LARGEST_ID;
 use basics::PLACES;
+use basics::is_one_to;
 pub use changes::delete_sound;
 pub use changes::insert_sound;
 pub use changes::move_sound;
@@ -16,6 +17,7 @@ pub use filing::is_sound_filing_in_range;
 pub use moves::move_all_sound;
 pub use order::in_order_sound;
 use places::key_fits;
+use places::place_holding;
 use places::place_of;
 use places::sum;
 pub use search::least_sound;
@@ -65,7 +67,7 @@ pub fn empty() -> Queue
     ensures { λ r. ⌜ r ≡ empty-queue ⌝ }
 {
     let mut links = [0u16; 544];
-    let mut x: usize = 64;
+    let mut x: usize = PLACES;
     while x < 544 {
         links[x] = x as u16;
         x += 1;
@@ -79,22 +81,20 @@ pub fn empty() -> Queue
     }
 }
 
+// The first refusal of insert that applies, or 0.
 fn insert_refusal(q: Queue, id: u32, key: u32, release: u32) -> u32
     ensures { λ r. ⌜ r ≡ answer-of (insert-refusals q id key release) ⌝ }
 {
     if !is_sound(q) {
         return 5;
     }
-    if id < 1 {
-        return 6;
-    }
-    if LARGEST_ID < id {
+    if !is_one_to(id, LARGEST_ID) {
         return 6;
     }
     if place_of(&q.ids, 0) == PLACES {
         return 21;
     }
-    if place_of(&q.ids, id) != PLACES {
+    if place_holding(&q.ids, id) != PLACES {
         return 22;
     }
     if key < release {
@@ -118,17 +118,14 @@ pub fn insert(q: Queue, id: u32, key: u32, release: u32) -> Changed
     Changed { answer: 0, queue }
 }
 
-// Id 0 stands at free places, so it is never filed.
+// The first refusal of delete that applies, or 0.
 fn delete_refusal(q: Queue, id: u32) -> u32
     ensures { λ r. ⌜ r ≡ answer-of (delete-refusals q id) ⌝ }
 {
     if !is_sound(q) {
         return 5;
     }
-    if id < 1 {
-        return 24;
-    }
-    if place_of(&q.ids, id) == PLACES {
+    if place_holding(&q.ids, id) == PLACES {
         return 24;
     }
     0
@@ -146,17 +143,15 @@ pub fn delete(q: Queue, id: u32) -> Changed
     Changed { answer: 0, queue }
 }
 
-// The sum of key and amount is taken in 64 bits: it may pass 32. A release stays as far below its key as it was.
+// The first refusal of move that applies, or 0. The sum of key and amount is taken in 64 bits: it may pass 32. A release stays as far below its
+// key as it was.
 fn move_refusal(q: Queue, id: u32, amount: u32) -> u32
     ensures { λ r. ⌜ r ≡ answer-of (move-refusals q id amount) ⌝ }
 {
     if !is_sound(q) {
         return 5;
     }
-    if id < 1 {
-        return 24;
-    }
-    let x = place_of(&q.ids, id);
+    let x = place_holding(&q.ids, id);
     if x == PLACES {
         return 24;
     }

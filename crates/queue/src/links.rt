@@ -2,23 +2,26 @@
 ghost use mathlib.Core.Path.{_≡_};
 ghost use Prim.Native.Nat.{_+_, _<_};
 ghost use lib.ListN.{getD, set};
+ghost use Rattle.basics.specs.Limits.{places};
 ghost use Rattle.places.specs.Order.{triple};
 ghost use Rattle.queue.specs.Layout.{queue-of, bucket-of-key, Sound};
 ghost use Rattle.queue.specs.Layout.Ranks.{rank};
 ghost use Rattle.queue.specs.Linking.{CanLink, linked-next, linked-prev, CanUnlink, unlinked-next, unlinked-prev, CanPut, put-before, CanTake, taken-out, IsPosition, IsNewRank};
+use basics::BUCKETS;
+use basics::PLACES;
 
 // The bucket of a key.
 pub fn bucket_of_key(key: u32) -> usize
     ensures { λ r. ⌜ r ≡ bucket-of-key key ⌝ }
 {
-    (key % 480) as usize
+    (key % BUCKETS) as usize
 }
 
 // The head of a key's bucket.
 pub fn head_of(key: u32) -> usize
-    ensures { λ r. ⌜ r ≡ 64 + bucket-of-key key ⌝ }
+    ensures { λ r. ⌜ r ≡ places + bucket-of-key key ⌝ }
 {
-    64 + bucket_of_key(key)
+    PLACES + bucket_of_key(key)
 }
 
 // Release and id as one number, by which the entries of a bucket stand.
@@ -41,7 +44,7 @@ fn store<'a>(
     key: u32,
     release: u32,
 )
-    requires { ⌜ x < 64 ⌝ }
+    requires { ⌜ x < places ⌝ }
     ensures { λ _. ⌜ (now (ids .exit) ≡ set (now (ids .entry)) x id) × (now (keys .exit) ≡ set (now (keys .entry)) x key) × (now (releases .exit) ≡ set (now (releases .entry)) x release) ⌝ }
 {
     ids[x] = id;
@@ -140,7 +143,7 @@ pub fn position_sound<'a>(
     ensures { λ r. ⌜ IsPosition (queue-of (now (ids .entry)) (now (keys .entry)) (now (releases .entry)) (now (next .entry)) (now (prev .entry))) key rank r ⌝ }
 {
     let mut n = node_at(next, head_of(key));
-    while n < 64 {
+    while n < PLACES {
         if rank < rank_of(releases[n], ids[n]) {
             return n;
         }

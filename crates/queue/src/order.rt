@@ -9,31 +9,33 @@ use super::links::bucket_of_key;
 use super::links::head_of;
 use super::links::node_at;
 use super::search::bucket_after;
+use basics::LAST_BUCKET;
+use basics::PLACES;
 use places::least_key;
 
-// The place of the entry that follows a node in the bucket of a key, along its list or in a later bucket; 64 if none follows.
+// The place of the entry that follows a node in the bucket of a key, along its list or in one of the other buckets; 64 if none follows.
 fn following_in_range<'a>(keys: &'a [u32; 64], next: &'a [u16; 544], key: u32, n: usize) -> usize
     requires { ⌜ n < 544 ⌝ }
     ensures { λ r. ⌜ IsFollowing (now (keys .entry)) (now (next .entry)) key n r ⌝ }
 {
     let on = node_at(next, n);
-    if on < 64 {
+    if on < PLACES {
         return on;
     }
     let mut bucket = bucket_after(bucket_of_key(key));
-    let mut left: usize = 479;
+    let mut left: usize = LAST_BUCKET;
     while 0 < left {
-        let first = node_at(next, 64 + bucket);
-        if first < 64 {
+        let first = node_at(next, PLACES + bucket);
+        if first < PLACES {
             if key < keys[first] {
                 return first;
             }
-            return 64;
+            return PLACES;
         }
         bucket = bucket_after(bucket);
         left -= 1;
     }
-    64
+    PLACES
 }
 
 // The first `count` entries, in order. The walk begins at the head of the least key's bucket.

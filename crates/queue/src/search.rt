@@ -1,6 +1,7 @@
 // The search for the first entry after a point in the order: a key, a release and an id, filed or not.
 ghost use mathlib.Core.Path.{_≡_};
 ghost use Prim.Native.Nat.{_<_};
+ghost use Rattle.basics.specs.Limits.{buckets};
 ghost use Rattle.places.specs.Order.{triple};
 ghost use Rattle.queue.specs.Layout.{bucket-after, Sound};
 ghost use Rattle.queue.specs.Calls.{least-of, next-of};
@@ -9,16 +10,19 @@ use super::Found;
 use super::Queue;
 use super::links::bucket_of_key;
 use super::links::node_at;
+use basics::BUCKET_COUNT;
+use basics::LAST_BUCKET;
+use basics::PLACES;
 use basics::is_after;
 use basics::wide;
 use places::least_key;
 
 // The bucket after a bucket, round the circle.
 pub fn bucket_after(bucket: usize) -> usize
-    requires { ⌜ bucket < 480 ⌝ }
+    requires { ⌜ bucket < buckets ⌝ }
     ensures { λ r. ⌜ r ≡ bucket-after bucket ⌝ }
 {
-    if bucket == 479 {
+    if bucket == LAST_BUCKET {
         return 0;
     }
     bucket + 1
@@ -29,12 +33,12 @@ fn search_sound(q: Queue, from: u32, key: u32, release: u32, id: u32) -> usize
     requires { ⌜ Sound q × SearchFrom q from (triple key release id) ⌝ }
     ensures { λ r. ⌜ IsFirstAfter q (triple key release id) r ⌝ }
 {
-    let mut found: usize = 64;
+    let mut found: usize = PLACES;
     let mut bucket = bucket_of_key(from);
-    let mut left: usize = 480;
+    let mut left: usize = BUCKET_COUNT;
     'search: while 0 < left {
-        let mut n = node_at(&q.next, 64 + bucket);
-        while n < 64 {
+        let mut n = node_at(&q.next, PLACES + bucket);
+        while n < PLACES {
             let there_key = q.keys[n];
             let there_release = q.releases[n];
             let there_id = q.ids[n];
@@ -68,7 +72,7 @@ pub fn next_sound(q: Queue, key: u32, release: u32, id: u32) -> Found
     ensures { λ r. ⌜ r ≡ next-of q key release id ⌝ }
 {
     let x = first_after_sound(q, key, release, id);
-    if x == 64 {
+    if x == PLACES {
         return Found {
             answer: 25,
             key: 0,

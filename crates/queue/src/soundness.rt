@@ -3,6 +3,7 @@
 use crate::Queue;
 use crate::links::bucket_of_key;
 use crate::links::node_at;
+use basics::PLACES;
 use basics::is_after;
 use basics::wide;
 use places::places_are_sound;
@@ -10,6 +11,7 @@ ghost use mathlib.Core.Path.{_≡_};
 ghost use Prim.Native.Nat.{_≤_, _<_};
 ghost use Rattle.basics.specs.Below.{Between};
 ghost use Rattle.basics.specs.Decides.{Decides};
+ghost use Rattle.basics.specs.Limits.{places};
 ghost use Rattle.basics.specs.NewIds.{at};
 ghost use Rattle.places.specs.Order.{Before};
 ghost use Rattle.places.specs.Entries.{row-of};
@@ -20,7 +22,7 @@ ghost use Rattle.queue.specs.Layout.Soundness.{NextRight, PrevRight, Ent
 fn is_node(ids: &[u16; 64], x: usize) -> bool
     ensures { λ r. ⌜ Decides r (IsNode (at (now (ids .entry))) x) ⌝ }
 {
-    if x < 64 {
+    if x < PLACES {
         return 0 < ids[x];
     }
     x < 544
@@ -29,10 +31,10 @@ fn is_node(ids: &[u16; 64], x: usize) -> bool
 fn bucket(keys: &[u32; 64], x: usize) -> usize
     ensures { λ r. ⌜ r ≡ bucket-of (at (now (keys .entry))) x ⌝ }
 {
-    if x < 64 {
+    if x < PLACES {
         return bucket_of_key(keys[x]);
     }
-    x - 64
+    x - PLACES
 }
 
 // Whether n can follow x, but for the order; it must be seen to be a node before its link back is read.
@@ -76,7 +78,7 @@ fn comes_later<'a>(
     x: usize,
     n: usize,
 ) -> bool
-    requires { ⌜ (x < 64) × (n < 64) ⌝ }
+    requires { ⌜ (x < places) × (n < places) ⌝ }
     ensures { λ r. ⌜ Decides r (Before (row-of (now (ids .entry)) (now (keys .entry)) (now (releases .entry)) x) (row-of (now (ids .entry)) (now (keys .entry)) (now (releases .entry)) n)) ⌝ }
 {
     let there = wide(ids[n]);
@@ -93,13 +95,13 @@ fn next_of_place_is_right<'a>(
     x: usize,
     n: usize,
 ) -> bool
-    requires { ⌜ x < 64 ⌝ }
+    requires { ⌜ x < places ⌝ }
     ensures { λ r. ⌜ Decides r (EntryNext (row-of (now (ids .entry)) (now (keys .entry)) (now (releases .entry))) (at (now (prev .entry))) x n) ⌝ }
 {
     if !next_is_right(ids, keys, prev, x, n) {
         return false;
     }
-    if n < 64 {
+    if n < PLACES {
         return comes_later(ids, keys, releases, x, n);
     }
     true
@@ -114,7 +116,7 @@ fn place_is_right<'a>(
     prev: &'a [u16; 544],
     x: usize,
 ) -> bool
-    requires { ⌜ x < 64 ⌝ }
+    requires { ⌜ x < places ⌝ }
     ensures { λ r. ⌜ Decides r (PlaceRight (row-of (now (ids .entry)) (now (keys .entry)) (now (releases .entry))) (at (now (next .entry))) (at (now (prev .entry))) x) ⌝ }
 {
     if ids[x] < 1 {
@@ -136,7 +138,7 @@ fn head_is_right<'a>(
     prev: &'a [u16; 544],
     x: usize,
 ) -> bool
-    requires { ⌜ (64 ≤ x) × (x < 544) ⌝ }
+    requires { ⌜ (places ≤ x) × (x < 544) ⌝ }
     ensures { λ r. ⌜ Decides r (HeadRight (at (now (ids .entry))) (at (now (keys .entry))) (at (now (next .entry))) (at (now (prev .entry))) x) ⌝ }
 {
     let n = node_at(next, x);
@@ -157,10 +159,10 @@ fn places_are_linked<'a>(
     next: &'a [u16; 544],
     prev: &'a [u16; 544],
 ) -> bool
-    ensures { λ r. ⌜ Decides r (Between 0 64 (PlaceRight (row-of (now (ids .entry)) (now (keys .entry)) (now (releases .entry))) (at (now (next .entry))) (at (now (prev .entry))))) ⌝ }
+    ensures { λ r. ⌜ Decides r (Between 0 places (PlaceRight (row-of (now (ids .entry)) (now (keys .entry)) (now (releases .entry))) (at (now (next .entry))) (at (now (prev .entry))))) ⌝ }
 {
     let mut x: usize = 0;
-    while x < 64 {
+    while x < PLACES {
         if !place_is_right(ids, keys, releases, next, prev, x) {
             return false;
         }
@@ -175,9 +177,9 @@ fn heads_are_linked<'a>(
     next: &'a [u16; 544],
     prev: &'a [u16; 544],
 ) -> bool
-    ensures { λ r. ⌜ Decides r (Between 64 544 (HeadRight (at (now (ids .entry))) (at (now (keys .entry))) (at (now (next .entry))) (at (now (prev .entry))))) ⌝ }
+    ensures { λ r. ⌜ Decides r (Between places 544 (HeadRight (at (now (ids .entry))) (at (now (keys .entry))) (at (now (next .entry))) (at (now (prev .entry))))) ⌝ }
 {
-    let mut x: usize = 64;
+    let mut x: usize = PLACES;
     while x < 544 {
         if !head_is_right(ids, keys, next, prev, x) {
             return false;

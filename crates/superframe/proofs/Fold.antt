@@ -5,14 +5,15 @@ use Prim.Native.Nat.{ℕ, _+_, _*_, _≤_, _<_, _∣_}
 use native.Mathlib.Nat.{∣-prop, dvd-trans, one-dvd, le-of-dvd, le-trans, mul-le-mul}
 use native.Mathlib.Omega.{arith}
 use lib.ListN.{length, take, getD}
-use Rattle.superframe.specs.Periods.{InRange}
-use Rattle.superframe.specs.Multiples.{IsLcmOfTwo, WithinLimit, IsLcmOrAbove}
+use Rattle.basics.specs.Limits.{longest-frame, longest-period}
+use Rattle.basics.specs.OneTo.{OneTo}
+use Rattle.superframe.specs.Multiples.{IsLcmOfTwo, IsLcmOrAbove}
 use Rattle.superframe.proofs.Prefix.{take-next, all-snoc, mem-last, mem-take}
 
 -- m is a multiple of every number of the list, and divides every such multiple
 pub record Folded (xs : List ℕ) (m : ℕ) : Type 0 where
   pub positive : 1 ≤ m
-  pub bounded : m ≤ 5040 * 240
+  pub bounded : m ≤ longest-frame * longest-period
   pub common : (p : ℕ) → List·Mem p xs → p ∣ m
   pub divides : (n : ℕ) → ((p : ℕ) → List·Mem p xs → p ∣ n) → m ∣ n
 
@@ -21,7 +22,7 @@ pub folded-none : Folded [] 1
 folded-none =
     record { positive = omega arith; bounded = omega arith; common = λ p m. absurd (not-mem-nil m); divides = λ n all. one-dvd n }
 
-folded-snoc : (xs : List ℕ) (m p r : ℕ) → WithinLimit m → InRange p → Folded xs m → IsLcmOfTwo m p r → Folded (xs ++ (p ∷ [])) r
+folded-snoc : (xs : List ℕ) (m p r : ℕ) → OneTo longest-frame m → OneTo longest-period p → Folded xs m → IsLcmOfTwo m p r → Folded (xs ++ (p ∷ [])) r
 folded-snoc xs m p r low range f lcm =
     record {
       positive = lcm .positive;
@@ -31,12 +32,12 @@ folded-snoc xs m p r low range f lcm =
     }
 
 -- one period further
-pub folded-next : (xs : List ℕ) (i m r : ℕ) → i < length xs → WithinLimit m → InRange (getD xs i 0) → Folded (take i xs) m
+pub folded-next : (xs : List ℕ) (i m r : ℕ) → i < length xs → OneTo longest-frame m → OneTo longest-period (getD xs i 0) → Folded (take i xs) m
     → IsLcmOfTwo m (getD xs i 0) r → Folded (take (i + 1) xs) r
 folded-next xs i m r inside low range f lcm = rw (take-next xs i inside) (folded-snoc (take i xs) m (getD xs i 0) r low range f lcm)
 
 -- the fold may stop where the limit is passed, and at the end
-pub folded-done : (xs : List ℕ) (i m : ℕ) → Folded (take i xs) m → (m ≤ 5040 → take i xs ≡ xs) → IsLcmOrAbove xs m
+pub folded-done : (xs : List ℕ) (i m : ℕ) → Folded (take i xs) m → (m ≤ longest-frame → take i xs ≡ xs) → IsLcmOrAbove xs m
 folded-done xs i m f whole =
     record {
       bounded = f .bounded;

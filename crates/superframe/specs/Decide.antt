@@ -6,12 +6,14 @@ use native.Mathlib.Bridge.{le-prop}
 use native.Mathlib.Nat.{∣-prop, mul-pos, dvd-mul-left-of-dvd, dvd-mul-right}
 use native.Mathlib.Decide.{decLe, decDvd}
 use native.Mathlib.Omega.{arith}
+use Rattle.basics.specs.Limits.{longest-period}
+use Rattle.basics.specs.OneTo.{decide-one-to}
 use Rattle.superframe.specs.Facts.Least.{least-exists}
 use Rattle.superframe.specs.Periods.{AllInRange, IsCommonMultiple, IsLcm}
 
 -- whether every period of a list is 1 to 240 can be decided
 pub decide-in-range : (periods : List ℕ) → Dec (AllInRange periods)
-decide-in-range = decidableBAll (λ p. Dec·and (decLe 1 p) (decLe p 240))
+decide-in-range = decidableBAll (decide-one-to longest-period)
 
 decide-common-multiple : (periods : List ℕ) (m : ℕ) → Dec (IsCommonMultiple periods m)
 decide-common-multiple periods m = Dec·and (decLe 1 m) (decidableBAll (λ p. decDvd p m) periods)

@@ -2,6 +2,7 @@
 use mathlib.Core.List.{List}
 use Prim.Native.Nat.{ℕ, _+_, _*_, _≤_}
 use native.Mathlib.Decide.{decLe}
+use Rattle.basics.specs.Limits.{longest-frame}
 use Rattle.superframe.specs.Periods.{AllInRange}
 use Rattle.superframe.specs.Decide.{decide-in-range, lcm-exists}
 
@@ -15,13 +16,13 @@ abbrev pub refused : ℕ → Answered
 refused number = record { answer = number; value = 0 }
 
 -- Annex 9.3, 9.4: 19 if m, which is to be the least common multiple, is above 5,040; else answer 0 and the value m.
-unfoldable pub within-limit : (m : ℕ) → Dec (m ≤ 5040) → Answered
+unfoldable pub within-limit : (m : ℕ) → Dec (m ≤ longest-frame) → Answered
 within-limit m (yes _) = record { answer = 0; value = m }
 within-limit m (no _) = refused 19
 
 -- Annex 9.2: 18 if any period of the list is not 1 to 240; 19 is asked only where all are.
 unfoldable pub by-range : (periods : List ℕ) → Dec (AllInRange periods) → Answered
-by-range periods (yes good) = let m = lcm-exists periods good .0 in within-limit m (decLe m 5040)
+by-range periods (yes good) = let m = lcm-exists periods good .0 in within-limit m (decLe m longest-frame)
 by-range periods (no _) = refused 18
 
 -- Annex 9.1: the answer and the value for a list of periods, whatever its length and its numbers.

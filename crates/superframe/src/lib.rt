@@ -1,12 +1,14 @@
 // The superframe helper: the least common multiple of the streams' periods, for the design office's C tool.
 ghost use mathlib.Core.Path.{_≡_};
 ghost use Rattle.basics.specs.Decides.{Decides};
-ghost use Rattle.superframe.specs.Periods.{InRange, AllInRange};
+ghost use Rattle.basics.specs.Limits.{longest-frame, longest-period};
+ghost use Rattle.basics.specs.OneTo.{OneTo};
+ghost use Rattle.superframe.specs.Periods.{AllInRange};
 ghost use Rattle.superframe.specs.Superframe.{superframe-of, packed};
-ghost use Rattle.superframe.specs.Multiples.{IsGcd, IsLcmOfTwo, WithinLimit, IsLcmOrAbove, Packs};
-
-// The longest superframe that a planner takes.
-const LIMIT: u32 = 5040;
+ghost use Rattle.superframe.specs.Multiples.{IsGcd, IsLcmOfTwo, IsLcmOrAbove, Packs};
+use basics::LONGEST_FRAME;
+use basics::LONGEST_PERIOD;
+use basics::is_one_to;
 
 // Euclid: the second number falls at each call.
 fn gcd(a: u32, b: u32) -> u32
@@ -17,11 +19,18 @@ fn gcd(a: u32, b: u32) -> u32
 
 // Dividing before multiplying keeps the product small.
 fn lcm_within_limit(m: u32, p: u32) -> u32
-    requires { ⌜ WithinLimit m × InRange p ⌝ }
+    requires { ⌜ OneTo longest-frame m × OneTo longest-period p ⌝ }
     ensures { λ r. ⌜ IsLcmOfTwo m p r ⌝ }
 {
     let g = gcd(m, p);
     m / g * p
+}
+
+// Whether a byte is a period, 1 to 240.
+fn is_period(p: u8) -> bool
+    ensures { λ r. ⌜ Decides r (OneTo longest-period p) ⌝ }
+{
+    is_one_to(p as u32, LONGEST_PERIOD)
 }
 
 // Whether every period is 1 to 240; the whole list is looked at, so that 18 wins over 19 wherever the bad one stands.
@@ -30,11 +39,7 @@ fn all_in_range(periods: &[u8]) -> bool
 {
     let mut i = 0;
     while i < periods.len() {
-        let p = periods[i];
-        if p < 1 {
-            return false;
-        }
-        if 240 < p {
+        if !is_period(periods[i]) {
             return false;
         }
         i += 1;
@@ -50,7 +55,7 @@ fn lcm_in_range(periods: &[u8]) -> u32
     let mut m: u32 = 1;
     let mut at = 0;
     while at < periods.len() {
-        if LIMIT < m {
+        if LONGEST_FRAME < m {
             return m;
         }
         m = lcm_within_limit(m, periods[at] as u32);
@@ -76,7 +81,7 @@ pub extern "C" fn superframe(periods: &[u8]) -> u32
         return pack_within_limit(18, 0);
     }
     let value = lcm_in_range(periods);
-    if LIMIT < value {
+    if LONGEST_FRAME < value {
         return pack_within_limit(19, 0);
     }
     pack_within_limit(0, value)

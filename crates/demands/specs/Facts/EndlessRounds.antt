@@ -30,7 +30,8 @@ module _ (h : Content) (sound : ContentSound h) where
 
   -- its own rounds are lazy
   pub own-lazy : IsLazyRun (slots-of h) (start-gap-of h) (state-of h) (own-starts h)
-  own-lazy = lazy-run-exists (slots-of h) (start-gap-of h) (frame-of h) (sound .in-range .setting .slots .0) (omega arith) (state-of h) ready (frame-is-busy h sound)
+  own-lazy =
+      lazy-run-exists (slots-of h) (start-gap-of h) (frame-of h) (sound .in-range .setting .slots .0) (omega arith) (state-of h) ready (frame-is-busy h sound)
 
   -- a sound planner's own rounds are a rival ..
   pub own-is-rival : IsRivalOf h (own-rounds h)

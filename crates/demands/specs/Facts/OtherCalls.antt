@@ -1,5 +1,5 @@
 -- The calls beside the planner's own meet demand 1.
-use mathlib.Core.Path.{_≡_, refl, sym, ap, subst, subst⁻¹, _∙_}
+use mathlib.Core.Path.{_≡_, refl, sym, ap, subst⁻¹, _∙_}
 use mathlib.Core.List.{List, [], _∷_, cons≢nil}
 use Prim.Native.Nat.{ℕ, _≤_}
 use native.Mathlib.Decide.{decLe, ℕ-discrete}
@@ -8,6 +8,7 @@ use native.Mathlib.Omega.{arith}
 use lib.ListN.{drop, take-append-drop}
 use Rattle.basics.specs.Refusals.{Refusal, FirstOf, none, here, later, answer-of}
 use Rattle.basics.specs.Facts.Refusals.{answer-is-first}
+use Rattle.basics.specs.Limits.{longest-frame}
 use Rattle.places.specs.Order.{Entry}
 use Rattle.queue.specs.Layout.{Sound}
 use Rattle.queue.specs.Layout.Decide.{decide-sound}
@@ -50,13 +51,13 @@ frame-meets : (periods : List ℕ) (d : Dec (AllInRange periods))
     → Meets (superframe-refusals periods) (by-range periods d .answer) (by-range periods d .value ≡ 0)
 unfolding by-range within-limit
 frame-meets periods (no bad) = record { first = here bad; refused = λ _. refl }
-frame-meets periods (yes good) = go (decLe m 5040)
+frame-meets periods (yes good) = go (decLe m longest-frame)
   where
     m : ℕ
     m = lcm-exists periods good .0
 
     -- .. and its least common multiple within the limit
-    go : (e : Dec (m ≤ 5040)) → Meets (superframe-refusals periods) (within-limit m e .answer) (within-limit m e .value ≡ 0)
+    go : (e : Dec (m ≤ longest-frame)) → Meets (superframe-refusals periods) (within-limit m e .answer) (within-limit m e .value ≡ 0)
     go (yes within) =
         let within-it : (above-limit periods .Applies) → ⊥ = λ above. lt-irrefl 0 (omega (arith, above good m (lcm-exists periods good .1))) in
         record {

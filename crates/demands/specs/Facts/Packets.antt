@@ -9,6 +9,8 @@ use native.Mathlib.Decide.{decLt}
 use native.Mathlib.Omega.{arith}
 use lib.ListN.{length, take, length-map}
 use Rattle.basics.specs.Refusals.{answer-of}
+use Rattle.basics.specs.Limits.{largest-id, last-start}
+use Rattle.basics.specs.OneTo.{OneTo}
 use Rattle.rules.specs.Streams.{Stream}
 use Rattle.rules.specs.Slots.{slots}
 use Rattle.rules.specs.Facts.Slots.{IsChoice, choice-differ}
@@ -39,26 +41,26 @@ module _ (p : Planner) (sound : Sound p) (before after : List ℕ) (r : Rounded)
   is-choice : IsChoice (slots-of (content p)) (r .start) (streams-in (content p)) chosen
   is-choice =
       let h = content p in
-      round-choice (slots-of h) (now-of h) (streams-in h) (content-ready h (sound .content-sound)) (sound .content-sound .in-range .setting .slots .0) (cap-of h)
-      (r .start) (r .start) (held .start) (omega arith)
+      round-choice (slots-of h) (now-of h) (streams-in h) (content-ready h (sound .content-sound)) (sound .content-sound .in-range .setting .slots .0)
+      (cap-of h) (r .start) (r .start) (held .start) (omega arith)
 
-  not-late : r .start ≤ 1_000_000_000
-  not-late = go (decLt 1_000_000_000 (r .start))
+  not-late : r .start ≤ last-start
+  not-late = go (decLt last-start (r .start))
     where
-      go : Dec (1_000_000_000 < r .start) → r .start ≤ 1_000_000_000
+      go : Dec (last-start < r .start) → r .start ≤ last-start
       go (yes late) = absurd (held-is-not-late p before (sym (is .answer) ∙ zero) (starts-late-iff p sound (r .start) (held .start) .1 late))
       go (no early) = omega arith
 
-  numbers-good : (x : Stream) → List·Mem x (streams-in (content p)) → (1 ≤ x .number) × (x .number ≤ 32_767)
+  numbers-good : (x : Stream) → List·Mem x (streams-in (content p)) → OneTo largest-id (x .number)
   numbers-good =
-      all-streams (λ (x : Stream). (1 ≤ x .number) × (x .number ≤ 32_767)) (λ x. ×-prop le-prop le-prop) (content p .table)
+      all-streams (λ (x : Stream). OneTo largest-id (x .number)) (λ x. ×-prop le-prop le-prop) (content p .table)
       (λ q m. sound .content-sound .in-range .records .each q m .id)
 
   ids-good : IdsGood (ids-at (content p) (r .start))
   ids-good =
       record {
         range = λ id m. ∥∥₁-elim (mem-map .0 m) (×-prop le-prop le-prop)
-            (λ w. subst (λ (n : ℕ). (1 ≤ n) × (n ≤ 32_767)) (w .2) (numbers-good (w .0) (is-choice .inside (w .0) (w .1))));
+            (λ w. subst (λ (n : ℕ). OneTo largest-id n) (w .2) (numbers-good (w .0) (is-choice .inside (w .0) (w .1))));
         once =
             let h = content p in
             choice-differ (slots-of h) (r .start) (streams-in h) chosen (content-ready h (sound .content-sound) .table) is-choice;

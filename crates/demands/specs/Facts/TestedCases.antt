@@ -11,6 +11,7 @@ use lib.ListN.{length, take}
 use borrow.Author.Tests.{leb-true, ltb-true, eqb-true, eqb-false, not-true, le-leb}
 use Rattle.basics.specs.Refusals.{Refusal, answer-of}
 use Rattle.basics.specs.Facts.Refusals.{answer-first, answer-later, AllPass, answer-after}
+use Rattle.basics.specs.Limits.{last-start}
 use Rattle.rules.specs.Demand.{packets-by, demand, future, DemandRule, StartRule}
 use Rattle.rules.specs.Slots.{riders, goes-before, put-in-order, in-order, slots}
 use Rattle.rules.specs.Facts.LazyStart.{least-of, latest, lazy-start, lazy-start-is-lazy, lazy-unique, first-due, first-due-is-first}
@@ -171,8 +172,8 @@ start-in h = lazy-start (slots-of h) (cap-of h) (streams-in h) (first-due (strea
 start-in-is-start : (h : Content) → ContentSound h → IsStart h (start-in h)
 unfolding start-in
 start-in-is-start h sound =
-    lazy-start-is-lazy (slots-of h) (cap-of h) (streams-in h) (now-of h) (fits-now h sound) (sound .in-range .setting .slots .0) (frame-of h) (first-due (streams-in h))
-    (all-formed h sound) (frame-is-busy h sound) (first-due-is-first (streams-in h) (all-formed h sound))
+    lazy-start-is-lazy (slots-of h) (cap-of h) (streams-in h) (now-of h) (fits-now h sound) (sound .in-range .setting .slots .0) (frame-of h)
+    (first-due (streams-in h)) (all-formed h sound) (frame-is-busy h sound) (first-due-is-first (streams-in h) (all-formed h sound))
 
 -- the same ids in the same order
 unfoldable pub same-ids : List ℕ → List ℕ → Bool
@@ -193,12 +194,12 @@ tested-ids (x ∷ xs) (y ∷ ys) tested =
 -- the start is s, the clock reaches it, and its slots are these n ids
 unfoldable pub held-test : Content → ℕ → ℕ → List ℕ → Bool
 unfolding start-in same-ids slots in-order put-in-order goes-before riders Dec·and as-streams
-held-test h s n ids = (eqb (start-in h) s && leb s 1_000_000_000) && (eqb (length ids) n && same-ids (ids-at h s) ids)
+held-test h s n ids = (eqb (start-in h) s && leb s last-start) && (eqb (length ids) n && same-ids (ids-at h s) ids)
 
 -- the start is after the last one
 unfoldable pub late-test : Content → Bool
 unfolding start-in
-late-test h = ltb 1_000_000_000 (start-in h)
+late-test h = ltb last-start (start-in h)
 
 module _ (p : Planner) (sound : Sound p) (before after : List ℕ) (r : Rounded) (long : p .setting .slots ≤ length before) (is : IsRound p before after r) where
   -- where the test is passed, a round on a sound planner is held at s with these n ids, and the planner then holds what a round at s leaves
@@ -207,11 +208,11 @@ module _ (p : Planner) (sound : Sound p) (before after : List ℕ) (r : Rounded)
   unfolding held-test
   round-held s n ids tested =
       let h = content p in
-      let split : So (eqb (start-in h) s && leb s 1_000_000_000) × So (eqb (length ids) n && same-ids (ids-at h s) ids) = both tested in
-      let at : So (eqb (start-in h) s) × So (leb s 1_000_000_000) = both (split .0) in
+      let split : So (eqb (start-in h) s && leb s last-start) × So (eqb (length ids) n && same-ids (ids-at h s) ids) = both tested in
+      let at : So (eqb (start-in h) s) × So (leb s last-start) = both (split .0) in
       let places : So (eqb (length ids) n) × So (same-ids (ids-at h s) ids) = both (split .1) in
       let start : IsStart h s = subst (IsStart h) (eqb-true (start-in h) s (at .0)) (start-in-is-start h (sound .content-sound)) in
-      let zero = is .answer ∙ held-exactly p before sound long s start .1 (leb-true s 1_000_000_000 (at .1)) in
+      let zero = is .answer ∙ held-exactly p before sound long s start .1 (leb-true s last-start (at .1)) in
       let w = success-round is zero in
       let same : r .start ≡ s = lazy-unique (slots-of h) (cap-of h) (streams-in h) (r .start) s (w .start) start in
       let written : ids-at h (r .start) ≡ ids = ap (ids-at h) same ∙ tested-ids (ids-at h s) ids (places .1) in (
@@ -225,5 +226,5 @@ module _ (p : Planner) (sound : Sound p) (before after : List ℕ) (r : Rounded)
   round-late tested =
       let h = content p in
       let exactly = seventeen-exactly p before sound long (start-in h) (start-in-is-start h (sound .content-sound)) in
-      let seventeen : r .answer ≡ 17 = is .answer ∙ exactly .1 (ltb-true 1_000_000_000 (start-in h) tested) in
+      let seventeen : r .answer ≡ 17 = is .answer ∙ exactly .1 (ltb-true last-start (start-in h) tested) in
       (seventeen, refused-round is (λ zero. omega (arith, seventeen, zero)) .planner)

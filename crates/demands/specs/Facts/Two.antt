@@ -8,6 +8,7 @@ use native.Mathlib.Omega.{arith}
 use lib.ListN.{length, length-map}
 use Rattle.basics.specs.Refusals.{answer-of}
 use Rattle.basics.specs.Facts.Refusals.{answer-first, answer-later}
+use Rattle.basics.specs.Limits.{last-start}
 use Rattle.rules.specs.Streams.{Stream, Packet, packet, IsTable}
 use Rattle.rules.specs.Demand.{DemandRule, StartRule, DueAfter}
 use Rattle.rules.specs.Slots.{slots, after-round}
@@ -46,12 +47,13 @@ held-writes-slots p sound before after r held =
       ids = ids-written p before after r held ∙ sym (map-map (λ (q : Packet). q .number) (λ (x : Stream). packet x 0) chosen);
     }
 
-module _ (p : Planner) (sound : Sound p) (before after : List ℕ) (long : content p .setting .slots ≤ length before) (r : Rounded) (is : IsRound p before after r) where
-  held-if : (s : ℕ) → IsStart (content p) s → (r .answer ≡ 0) ↔ (s ≤ 1_000_000_000)
-  held-if s start = subst⁻¹ (λ (n : ℕ). (n ≡ 0) ↔ (s ≤ 1_000_000_000)) (is .answer) (held-exactly p before sound long s start)
+module _ (p : Planner) (sound : Sound p) (before after : List ℕ) (long : content p .setting .slots ≤ length before)
+    (r : Rounded) (is : IsRound p before after r) where
+  held-if : (s : ℕ) → IsStart (content p) s → (r .answer ≡ 0) ↔ (s ≤ last-start)
+  held-if s start = subst⁻¹ (λ (n : ℕ). (n ≡ 0) ↔ (s ≤ last-start)) (is .answer) (held-exactly p before sound long s start)
 
-  late-if : (s : ℕ) → IsStart (content p) s → (r .answer ≡ 17) ↔ (1_000_000_000 < s)
-  late-if s start = subst⁻¹ (λ (n : ℕ). (n ≡ 17) ↔ (1_000_000_000 < s)) (is .answer) (seventeen-exactly p before sound long s start)
+  late-if : (s : ℕ) → IsStart (content p) s → (r .answer ≡ 17) ↔ (last-start < s)
+  late-if s start = subst⁻¹ (λ (n : ℕ). (n ≡ 17) ↔ (last-start < s)) (is .answer) (seventeen-exactly p before sound long s start)
 
   round-at-cap : content p .table ≡ [] → RoundIsAtCap p before after r
   unfolding after-round

@@ -2,28 +2,27 @@
 use mathlib.Core.Path.{_≡_, sym, ap, subst, _∙_}
 use mathlib.Core.Logic.{Dec·and}
 use mathlib.Core.List.{List, decidableBAll, nodupDecidable, List-discrete}
-use Prim.Native.Nat.{ℕ, _≤_}
+use Prim.Native.Nat.{ℕ}
 use native.Mathlib.Decide.{decLe, ℕ-discrete, map-dec}
 use lib.ListN.{length}
+use Rattle.basics.specs.Limits.{last-start, most-slots, largest-id}
+use Rattle.basics.specs.OneTo.{decide-one-to}
 use Rattle.packet_bytes.specs.Layout.{Values, bytes-of}
 use Rattle.packets.specs.Good.{IdsGood, IsGood, IsGoodPacket}
 use Rattle.packet_bytes.specs.Parts.{values-in}
 use Rattle.packet_bytes.specs.Facts.Layout.{values-kept}
 
-decide-within : (limit n : ℕ) → Dec ((1 ≤ n) × (n ≤ limit))
-decide-within limit n = Dec·and (decLe 1 n) (decLe n limit)
-
 decide-ids : (ids : List ℕ) → Dec (IdsGood ids)
 decide-ids ids =
     map-dec (λ w. record { range = w .0; once = w .1 }) (λ r. (r .range, r .once))
-    (Dec·and (decidableBAll (decide-within 32_767) ids) (nodupDecidable ℕ-discrete ids))
+    (Dec·and (decidableBAll (decide-one-to largest-id) ids) (nodupDecidable ℕ-discrete ids))
 
 -- whether values are good can be decided
 pub decide-good : (v : Values) → Dec (IsGood v)
 decide-good v =
     map-dec (λ w. record { start = w .0; slots = w .1 .0; count = w .1 .1 .0; ids = w .1 .1 .1 }) (λ r. (r .start, (r .slots, (r .count, r .ids))))
-    (Dec·and (decLe (v .start) 1_000_000_000)
-    (Dec·and (decide-within 64 (v .slots))
+    (Dec·and (decLe (v .start) last-start)
+    (Dec·and (decide-one-to most-slots (v .slots))
     (Dec·and (decLe (length (v .ids)) (v .slots)) (decide-ids (v .ids)))))
 
 -- bytes that are those of some values are those of the values in them

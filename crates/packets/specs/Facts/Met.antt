@@ -5,7 +5,7 @@ use mathlib.Core.Logic.{Or·elim}
 use mathlib.Core.HLevel.{⊥-prop}
 use mathlib.Core.List.{List, [], _∷_, _++_, List·Mem, List·Mem-prop, List·Nodup}
 use mathlib.Core.List.{nodup-nil, nodup-append, nodup-cons, mem-append, mem-append-left, mem-append-right, eq-or-mem-of-mem-cons, mem-cons-self, not-mem-nil}
-use Prim.Native.Nat.{ℕ, _+_, _%_, _≤_, _<_}
+use Prim.Native.Nat.{ℕ, _+_, _%_, _<_}
 use native.Mathlib.Numerals.{add-one}
 use native.Mathlib.Decide.{ℕ-discrete}
 use lib.ListN.{length, getD, take}
@@ -13,6 +13,8 @@ use lib.Seq.{take-suc, split-at}
 use Rattle.basics.specs.Decides.{Decides}
 use Rattle.basics.specs.Facts.Decides.{decides-yes, same-as}
 use Rattle.basics.specs.Facts.Members.{getD-mem}
+use Rattle.basics.specs.Limits.{largest-id}
+use Rattle.basics.specs.OneTo.{OneTo}
 use Rattle.bits.specs.Bits.{InWords, IsWordsWith}
 use Rattle.bits.specs.Facts.Words.{zeros, length-zeros}
 use Rattle.packets.specs.Good.{IdsGood}
@@ -33,15 +35,15 @@ earlier ids x y other m =
     (λ last. Or·elim List·Mem-prop (eq-or-mem-of-mem-cons last) (λ same. absurd (other same)) (λ none. absurd (not-mem-nil none)))
 
 -- one id more that is in range and not there yet
-pub one-more-good : (ids : List ℕ) (x : ℕ) → IdsGood ids → (1 ≤ x) × (x ≤ 32_767) → (List·Mem x ids → ⊥) → IdsGood (ids ++ (x ∷ []))
+pub one-more-good : (ids : List ℕ) (x : ℕ) → IdsGood ids → OneTo largest-id x → (List·Mem x ids → ⊥) → IdsGood (ids ++ (x ∷ []))
 one-more-good ids x good range new =
     record {
       range = λ y m. in-range y m (ℕ-discrete y x);
       once = nodup-append .1 (good .once, nodup-cons .1 (not-mem-nil, nodup-nil), apart);
     }
   where
-    in-range : (y : ℕ) → List·Mem y (ids ++ (x ∷ [])) → Dec (y ≡ x) → (1 ≤ y) × (y ≤ 32_767)
-    in-range y m (yes same) = subst⁻¹ (λ (z : ℕ). (1 ≤ z) × (z ≤ 32_767)) same range
+    in-range : (y : ℕ) → List·Mem y (ids ++ (x ∷ [])) → Dec (y ≡ x) → OneTo largest-id y
+    in-range y m (yes same) = subst⁻¹ (λ (z : ℕ). OneTo largest-id z) same range
     in-range y m (no other) = good .range y (earlier ids x y other m)
 
     apart : (y : ℕ) → List·Mem y ids → List·Mem y (x ∷ []) → ⊥
@@ -53,7 +55,7 @@ next-taken : (ids : List ℕ) (i : ℕ) → i < length ids → take (i + 1) ids 
 next-taken ids i inside = rw add-one (take-suc ids i 0 inside)
 
 -- one id more is met where it is in range, stands at no earlier place, and the set gets its remainder by 1,024
-pub one-more-met : (ids : List ℕ) (i : ℕ) {words after : List ℕ} → i < length ids → IsMet (take i ids) words → (1 ≤ getD ids i 0) × (getD ids i 0 ≤ 32_767)
+pub one-more-met : (ids : List ℕ) (i : ℕ) {words after : List ℕ} → i < length ids → IsMet (take i ids) words → OneTo largest-id (getD ids i 0)
     → (List·Mem (getD ids i 0) (take i ids) → ⊥) → IsWordsWith words (getD ids i 0 % 1024) after → IsMet (take (i + 1) ids) after
 one-more-met ids i {words} {after} inside met range new put =
     subst⁻¹ (λ (l : List ℕ). IsMet l after) (next-taken ids i inside)
@@ -68,7 +70,7 @@ one-more-met ids i {words} {after} inside met range new put =
     is-in y m (no other) = put .kept (y % 1024) (met .all y (earlier (take i ids) (getD ids i 0) y other m))
 
 -- good ids are in range at every place
-pub good-at : (ids : List ℕ) (i : ℕ) → IdsGood ids → i < length ids → (1 ≤ getD ids i 0) × (getD ids i 0 ≤ 32_767)
+pub good-at : (ids : List ℕ) (i : ℕ) → IdsGood ids → i < length ids → OneTo largest-id (getD ids i 0)
 good-at ids i good inside = good .range (getD ids i 0) (getD-mem ids i 0 inside)
 
 -- and at none stands one that stands before it

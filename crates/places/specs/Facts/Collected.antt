@@ -8,6 +8,7 @@ use native.Mathlib.Nat.{lt-irrefl}
 use native.Mathlib.Decide.{decLe, decLt, ℕ-discrete}
 use native.Mathlib.Omega.{arith}
 use lib.ListN.{length}
+use Rattle.basics.specs.Limits.{places}
 use Rattle.places.specs.Order.{Entry}
 use Rattle.places.specs.Entries.{put, without}
 use Rattle.places.specs.Collected.{collected, Once}
@@ -49,7 +50,7 @@ module _ (at : ℕ → Entry) where
           subst⁻¹ (λ (j : ℕ). List·Mem (at j) (collected at (suc n))) e (rw (collected-some n held) (put-new (at n) (collected at n)))
 
   -- where ids differ from place to place, what is collected from the first n of the 64 is in order
-  pub collected-in-order : Once (λ i. at i .id) → (n : ℕ) → n ≤ 64 → InOrder (collected at n)
+  pub collected-in-order : Once (λ i. at i .id) → (n : ℕ) → n ≤ places → InOrder (collected at n)
   unfolding collected
   collected-in-order once zero within = Pairwise·nil
   collected-in-order once (suc n) within = go (collected-in-order once n (omega arith)) (decLe 1 (at n .id))
@@ -91,20 +92,20 @@ module _ (at : ℕ → Entry) where
   collected-full (suc n) all = rw (collected-some n (all n (omega arith)), put-length, collected-full n (λ i l. all i (omega arith)))
 
 -- ids all 0 leave nothing to collect
-pub none-collected : (places : ℕ → Entry) (n : ℕ) → ((i : ℕ) → i < n → places i .id ≡ 0) → collected places n ≡ []
+pub none-collected : (at : ℕ → Entry) (n : ℕ) → ((i : ℕ) → i < n → at i .id ≡ 0) → collected at n ≡ []
 unfolding collected
-none-collected places zero free = refl
-none-collected places (suc n) free = collected-none places n (free n (omega arith)) ∙ none-collected places n (λ i below. free i (omega arith))
+none-collected at zero free = refl
+none-collected at (suc n) free = collected-none at n (free n (omega arith)) ∙ none-collected at n (λ i below. free i (omega arith))
 
 -- one place is given another entry
-module _ (at at′ : ℕ → Entry) (x : ℕ) (e : Entry) (inside : x < 64) (set : IsSet at x e at′) where
+module _ (at at′ : ℕ → Entry) (x : ℕ) (e : Entry) (inside : x < places) (set : IsSet at x e at′) where
   same-id : (i : ℕ) → (i ≡ x → ⊥) → at′ i .id ≡ at i .id
   same-id i other = ap (λ (a : Entry). a .id) (set .elsewhere i other)
 
   new-id : at′ x .id ≡ e .id
   new-id = ap (λ (a : Entry). a .id) (set .at)
 
-  module _ (free : at x .id ≡ 0) (some : 1 ≤ e .id) (once : Once (λ i. at i .id)) (unused : (i : ℕ) → i < 64 → at i .id ≡ e .id → ⊥) where
+  module _ (free : at x .id ≡ 0) (some : 1 ≤ e .id) (once : Once (λ i. at i .id)) (unused : (i : ℕ) → i < places → at i .id ≡ e .id → ⊥) where
     -- a new id at a free place keeps the ids apart
     pub put-once : Once (λ i. at′ i .id)
     put-once i j li lj holds same = go (ℕ-discrete i x) (ℕ-discrete j x)
@@ -116,31 +117,31 @@ module _ (at at′ : ℕ → Entry) (x : ℕ) (e : Entry) (inside : x < 64) (set
         go (no a) (no b) = once i j li lj (rw (same-id i a) at holds) (sym (same-id i a) ∙ (same ∙ same-id j b))
 
     -- and puts the new entry into its place among the others
-    pub put-collected : collected at′ 64 ≡ put e (collected at 64)
+    pub put-collected : collected at′ places ≡ put e (collected at places)
     put-collected =
-        in-order-unique (collected at′ 64) (put e es) (collected-in-order at′ put-once 64 (omega arith))
-        (put-in-order e es (collected-in-order at once 64 (omega arith)) new) there back
+        in-order-unique (collected at′ places) (put e es) (collected-in-order at′ put-once places (omega arith))
+        (put-in-order e es (collected-in-order at once places (omega arith)) new) there back
       where
         es : List Entry
-        es = collected at 64
+        es = collected at places
 
         new : (a : Entry) → List·Mem a es → a ≡ e → ⊥
-        new a m same = ∥∥₁-elim (of-collected at 64 a m) ⊥-prop (λ w. unused (w .0) (w .1) (ap (λ (b : Entry). b .id) (sym (w .3) ∙ same)))
+        new a m same = ∥∥₁-elim (of-collected at places a m) ⊥-prop (λ w. unused (w .0) (w .1) (ap (λ (b : Entry). b .id) (sym (w .3) ∙ same)))
 
-        there : (a : Entry) → List·Mem a (collected at′ 64) → List·Mem a (put e es)
-        there a m = ∥∥₁-elim (of-collected at′ 64 a m) ∥∥₁-prop (λ w. go (w .0) (w .1) (w .2) (w .3) (ℕ-discrete (w .0) x))
+        there : (a : Entry) → List·Mem a (collected at′ places) → List·Mem a (put e es)
+        there a m = ∥∥₁-elim (of-collected at′ places a m) ∥∥₁-prop (λ w. go (w .0) (w .1) (w .2) (w .3) (ℕ-discrete (w .0) x))
           where
-            go : (i : ℕ) → i < 64 → 1 ≤ at′ i .id → a ≡ at′ i → Dec (i ≡ x) → List·Mem a (put e es)
+            go : (i : ℕ) → i < places → 1 ≤ at′ i .id → a ≡ at′ i → Dec (i ≡ x) → List·Mem a (put e es)
             go i l holds is (yes same) = rw (is ∙ (ap at′ same ∙ set .at)) (put-new e es)
-            go i l holds is (no other) = rw (is ∙ set .elsewhere i other) (put-old e es (at i) (in-collected at 64 i l (rw (same-id i other) at holds)))
+            go i l holds is (no other) = rw (is ∙ set .elsewhere i other) (put-old e es (at i) (in-collected at places i l (rw (same-id i other) at holds)))
 
-        back : (a : Entry) → List·Mem a (put e es) → List·Mem a (collected at′ 64)
+        back : (a : Entry) → List·Mem a (put e es) → List·Mem a (collected at′ places)
         back a m =
             Or·elim ∥∥₁-prop (in-put e es a m)
-            (λ same. rw (same ∙ sym (set .at)) (in-collected at′ 64 x inside (rw new-id some)))
-            (λ old. ∥∥₁-elim (of-collected at 64 a old) ∥∥₁-prop
+            (λ same. rw (same ∙ sym (set .at)) (in-collected at′ places x inside (rw new-id some)))
+            (λ old. ∥∥₁-elim (of-collected at places a old) ∥∥₁-prop
             (λ w. let other : w .0 ≡ x → ⊥ = λ same. lt-irrefl 0 (omega (arith, subst (λ (i : ℕ). 1 ≤ at i .id) same (w .2), free)) in
-            rw (w .3 ∙ sym (set .elsewhere (w .0) other)) (in-collected at′ 64 (w .0) (w .1) (rw (same-id (w .0) other) (w .2)))))
+            rw (w .3 ∙ sym (set .elsewhere (w .0) other)) (in-collected at′ places (w .0) (w .1) (rw (same-id (w .0) other) (w .2)))))
 
   -- a place made free takes its entry out
   module _ (freed : e .id ≡ 0) (holds : 1 ≤ at x .id) (once : Once (λ i. at i .id)) where
@@ -155,25 +156,25 @@ module _ (at at′ : ℕ → Entry) (x : ℕ) (e : Entry) (inside : x < 64) (set
         once i j li lj (rw (same-id i a) at there) (sym (same-id i a) ∙ (same ∙ same-id j b))
 
     -- and what is collected is as before, without the id that stood there
-    pub taken-collected : collected at′ 64 ≡ without (at x .id) (collected at 64)
+    pub taken-collected : collected at′ places ≡ without (at x .id) (collected at places)
     unfolding without
     taken-collected =
-        in-order-unique (collected at′ 64) (without (at x .id) (collected at 64)) (collected-in-order at′ taken-once 64 (omega arith))
-        (Pairwise·filter (λ (a : Entry). Dec·not (ℕ-discrete (a .id) (at x .id))) (collected-in-order at once 64 (omega arith))) there back
+        in-order-unique (collected at′ places) (without (at x .id) (collected at places)) (collected-in-order at′ taken-once places (omega arith))
+        (Pairwise·filter (λ (a : Entry). Dec·not (ℕ-discrete (a .id) (at x .id))) (collected-in-order at once places (omega arith))) there back
       where
-        there : (a : Entry) → List·Mem a (collected at′ 64) → List·Mem a (without (at x .id) (collected at 64))
+        there : (a : Entry) → List·Mem a (collected at′ places) → List·Mem a (without (at x .id) (collected at places))
         there a m =
-            ∥∥₁-elim (of-collected at′ 64 a m) ∥∥₁-prop
+            ∥∥₁-elim (of-collected at′ places a m) ∥∥₁-prop
             (λ w. let other = left (w .0) (w .2) in
             let old = rw (same-id (w .0) other) at (w .2) in
             rw (w .3 ∙ set .elsewhere (w .0) other)
             (mem-filter (λ (b : Entry). Dec·not (ℕ-discrete (b .id) (at x .id))) .1
-            (in-collected at 64 (w .0) (w .1) old, λ same. other (once (w .0) x (w .1) inside old same))))
+            (in-collected at places (w .0) (w .1) old, λ same. other (once (w .0) x (w .1) inside old same))))
 
-        back : (a : Entry) → List·Mem a (without (at x .id) (collected at 64)) → List·Mem a (collected at′ 64)
+        back : (a : Entry) → List·Mem a (without (at x .id) (collected at places)) → List·Mem a (collected at′ places)
         back a m =
             let v = mem-filter (λ (b : Entry). Dec·not (ℕ-discrete (b .id) (at x .id))) .0 m in
-            ∥∥₁-elim (of-collected at 64 a (v .0)) ∥∥₁-prop
+            ∥∥₁-elim (of-collected at places a (v .0)) ∥∥₁-prop
             (λ w. let other : w .0 ≡ x → ⊥ = λ same. v .1 (ap (λ (b : Entry). b .id) (w .3) ∙ ap (λ (k : ℕ). at k .id) same) in
             rw (w .3 ∙ sym (set .elsewhere (w .0) other))
-            (in-collected at′ 64 (w .0) (w .1) (rw (same-id (w .0) other) (w .2))))
+            (in-collected at′ places (w .0) (w .1) (rw (same-id (w .0) other) (w .2))))

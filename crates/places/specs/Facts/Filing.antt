@@ -14,6 +14,7 @@ use Rattle.basics.specs.Decides.{Decides}
 use Rattle.basics.specs.Facts.Decides.{same-as, equal-to}
 use Rattle.basics.specs.Places.{IsPlaceAmong}
 use Rattle.basics.specs.Facts.Places.{place-found}
+use Rattle.basics.specs.Limits.{places}
 use Rattle.places.specs.Facts.Marks.{marked, marked-none, marked-few, all-marked, marked-all, marked-more}
 use Rattle.places.specs.Filing.{CanFile, IsRow, PlacesFile}
 use Rattle.places.specs.Changes.{IsSet}
@@ -119,7 +120,7 @@ module _ {filed rows : ℕ → Entry} {n : ℕ} where
         once y z below-y below-z holds same (no last) (no also) = omega arith
 
     -- as many met as there are rows: all of them
-    pub filed-all : {m : ℕ} {met : ℕ → ℕ} → FiledTo filed rows n 64 m met → Decides (eqb m n) (PlacesFile filed rows n)
+    pub filed-all : {m : ℕ} {met : ℕ → ℕ} → FiledTo filed rows n places m met → Decides (eqb m n) (PlacesFile filed rows n)
     filed-all {m} {met} to = same-as on back (equal-to m n)
       where
         on : m ≡ n → PlacesFile filed rows n
@@ -140,7 +141,7 @@ module _ {filed rows : ℕ → Entry} {n : ℕ} where
 
 -- an entry that does not stand at its id's place among the rows is none of them
 pub no-row-at : {ids keys releases : List ℕ} {n : ℕ} (e : Entry) (r : ℕ) → CanFile ids keys releases n
-    → IsPlaceAmong ids (e .id) r → (r < n → row-of ids keys releases r ≡ e → ⊥) → IsRow ids keys releases n e 64
+    → IsPlaceAmong ids (e .id) r → (r < n → row-of ids keys releases r ≡ e → ⊥) → IsRow ids keys releases n e places
 no-row-at {ids} {keys} {releases} {n} e r can place differs =
     record {
       found = λ other. absurd (other refl);
@@ -151,21 +152,22 @@ no-row-at {ids} {keys} {releases} {n} e r can place differs =
 
 -- place x holds an id, and r says which of the rows it holds
 module _ {filed : ℕ → Entry} {ids keys releases : List ℕ} {n x m r : ℕ} (met : List ℕ) (can : CanFile ids keys releases n)
-    (to : FiledTo filed (row-of ids keys releases) n x m (λ k. getD met k 0)) (inside : x < 64) (some : 1 ≤ filed x .id)
+    (to : FiledTo filed (row-of ids keys releases) n x m (λ k. getD met k 0)) (inside : x < places) (some : 1 ≤ filed x .id)
     (row : IsRow ids keys releases n (filed x) r) where
   -- none of them
-  pub row-absent : r ≡ 64 → PlacesFile filed (row-of ids keys releases) n → ⊥
+  pub row-absent : r ≡ places → PlacesFile filed (row-of ids keys releases) n → ⊥
   row-absent none file = ∥∥₁-elim (file .listed x (inside, some)) ⊥-prop (λ w. row .absent none (w .0) (w .1) (w .2))
 
   -- one that an earlier place holds
-  pub row-again : (r ≡ 64 → ⊥) → (getD met r 0 ≡ 0 → ⊥) → PlacesFile filed (row-of ids keys releases) n → ⊥
+  pub row-again : (r ≡ places → ⊥) → (getD met r 0 ≡ 0 → ⊥) → PlacesFile filed (row-of ids keys releases) n → ⊥
   row-again found again file =
       let this = row .found found in
       let w = to .placed r (this .0) (omega (arith, to .marks r, again)) in
       lt-irrefl x (omega (arith, w .1, file .once (w .0) x (omega (arith, w .1), w .2) (inside, some) (sym (w .3) ∙ ap (λ (a : Entry). a .id) (this .1))))
 
   -- a new one, which is marked
-  pub row-new : (r ≡ 64 → ⊥) → getD met r 0 ≡ 0 → length met ≡ 64 → FiledTo filed (row-of ids keys releases) n (x + 1) (m + 1) (λ k. getD (set met r 1) k 0)
+  pub row-new : (r ≡ places → ⊥) → getD met r 0 ≡ 0 → length met ≡ places
+      → FiledTo filed (row-of ids keys releases) n (x + 1) (m + 1) (λ k. getD (set met r 1) k 0)
   row-new found new long =
       let this = row .found found in
       filed-more (can .ascend) to (this .0) some (this .1) new

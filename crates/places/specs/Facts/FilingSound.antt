@@ -5,6 +5,7 @@ use mathlib.Core.List.{List, List·Mem, List·Mem-prop}
 use Prim.Native.Nat.{ℕ, _<_}
 use native.Mathlib.Bridge.{le-prop}
 use native.Mathlib.Omega.{arith}
+use Rattle.basics.specs.Limits.{places}
 use Rattle.places.specs.Order.{Entry}
 use Rattle.places.specs.Entries.{row-of, FilesJust}
 use Rattle.places.specs.Collected.{collected}
@@ -15,15 +16,15 @@ use Rattle.places.specs.Filing.{CanFile, Filled, PlacesFile}
 module _ (filed : ℕ → Entry) (ids keys releases : List ℕ) (n : ℕ) where
   -- places from which just the rows are collected, no id twice, hold just these
   pub files-just-places : ((x y : ℕ) → Filled filed x → Filled filed y → filed x .id ≡ filed y .id → x ≡ y)
-      → FilesJust ids keys releases n (collected filed 64) → PlacesFile filed (row-of ids keys releases) n
+      → FilesJust ids keys releases n (collected filed places) → PlacesFile filed (row-of ids keys releases) n
   files-just-places once files =
       record {
-        listed = λ x holds. ∥∥₁-map (files (filed x) .0 (in-collected filed 64 x (holds .0) (holds .1)))
+        listed = λ x holds. ∥∥₁-map (files (filed x) .0 (in-collected filed places x (holds .0) (holds .1)))
             (λ w. (w .0, w .1, sym (w .2)));
         once = once;
         placed = λ i below.
             let row = row-of ids keys releases i in
-            ∥∥₁-elim (of-collected filed 64 row (files row .1 ∣ (i, below, refl) ∣₁)) ∥∥₁-prop
+            ∥∥₁-elim (of-collected filed places row (files row .1 ∣ (i, below, refl) ∣₁)) ∥∥₁-prop
             (λ w. ∣ (w .0, (w .1, w .2), w .3) ∣₁);
       }
 
@@ -52,18 +53,18 @@ module _ (filed : ℕ → Entry) (ids keys releases : List ℕ) (n : ℕ) where
         same-release = ap (λ (e : Entry). e .release)
 
     -- and just the rows are collected from them
-    pub places-file-just : FilesJust ids keys releases n (collected filed 64)
+    pub places-file-just : FilesJust ids keys releases n (collected filed places)
     places-file-just e = (there, back)
       where
-        there : List·Mem e (collected filed 64) → ∥ ((i : ℕ) × (i < n) × (e ≡ row-of ids keys releases i)) ∥₁
+        there : List·Mem e (collected filed places) → ∥ ((i : ℕ) × (i < n) × (e ≡ row-of ids keys releases i)) ∥₁
         there m =
-            ∥∥₁-elim (of-collected filed 64 e m) ∥∥₁-prop
+            ∥∥₁-elim (of-collected filed places e m) ∥∥₁-prop
             (λ v. ∥∥₁-map (file .listed (v .0) (v .1, v .2))
             (λ w. (w .0, w .1, v .3 ∙ sym (w .2))))
 
-        back : ∥ ((i : ℕ) × (i < n) × (e ≡ row-of ids keys releases i)) ∥₁ → List·Mem e (collected filed 64)
+        back : ∥ ((i : ℕ) × (i < n) × (e ≡ row-of ids keys releases i)) ∥₁ → List·Mem e (collected filed places)
         back some =
             ∥∥₁-elim some List·Mem-prop
             (λ v. ∥∥₁-elim (file .placed (v .0) (v .1)) List·Mem-prop
-            (λ w. subst⁻¹ (λ (a : Entry). List·Mem a (collected filed 64)) (v .2 ∙ w .2)
-            (in-collected filed 64 (w .0) (w .1 .0) (w .1 .1))))
+            (λ w. subst⁻¹ (λ (a : Entry). List·Mem a (collected filed places)) (v .2 ∙ w .2)
+            (in-collected filed places (w .0) (w .1 .0) (w .1 .1))))

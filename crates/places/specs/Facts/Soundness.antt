@@ -10,6 +10,7 @@ use Rattle.basics.specs.Below.{Below}
 use Rattle.basics.specs.Decides.{Decides}
 use Rattle.basics.specs.Facts.Decides.{same-as}
 use Rattle.basics.specs.NewIds.{New}
+use Rattle.basics.specs.Limits.{key-span, largest-id, largest-key, places}
 use Rattle.places.specs.Soundness.{AllWithin, KeysWithin, IsLesser, IsLeast, Full, ShortSpan, PlacesSound}
 
 -- one more place looked at
@@ -25,26 +26,27 @@ least-more {ids} {keys} {i} {m} {r} before step =
     bound j below (yes less) holds = omega (arith, before .at-most j less holds, step .at-most)
     bound j below (no last) holds = let e : j ≡ i = omega arith in rw e (step .at-most-key (rw e at holds))
 
-    reach : (r ≡ m) ⊎ ((1 ≤ ids i) × (r ≡ keys i)) → (m ≡ 2_000_000_000) ⊎ ((j : ℕ) × (j < i) × (1 ≤ ids j) × (m ≡ keys j)) →
-        (r ≡ 2_000_000_000) ⊎ ((j : ℕ) × (j < i + 1) × (1 ≤ ids j) × (r ≡ keys j))
+    reach : (r ≡ m) ⊎ ((1 ≤ ids i) × (r ≡ keys i)) → (m ≡ largest-key) ⊎ ((j : ℕ) × (j < i) × (1 ≤ ids j) × (m ≡ keys j)) →
+        (r ≡ largest-key) ⊎ ((j : ℕ) × (j < i + 1) × (1 ≤ ids j) × (r ≡ keys j))
     reach (inl e) (inl top) = inl (e ∙ top)
     reach (inl e) (inr w) = inr (w .0, omega (arith, w .1), w .2, e ∙ w .3)
     reach (inr w) other = inr (i, omega arith, w .0, w .1)
 
 -- the span of keys in range is short exactly if no key is above the least by more than 479
-pub span-last : {ids keys : ℕ → ℕ} {m : ℕ} {b : Bool} → KeysWithin ids keys 2_000_000_000
-    → IsLeast ids keys 64 m → Decides b (KeysWithin ids keys (m + 479)) → Decides b (ShortSpan ids keys)
+pub span-last : {ids keys : ℕ → ℕ} {m : ℕ} {b : Bool} → KeysWithin ids keys largest-key
+    → IsLeast ids keys places m → Decides b (KeysWithin ids keys (m + key-span)) → Decides b (ShortSpan ids keys)
 span-last {ids} {keys} {m} range least =
     same-as
     (λ within i j hi hj. omega (arith, within i (hi .0) (hi .1), least .at-most j (hj .0) (hj .1)))
     (λ span i inside holds. go span i inside holds (least .reached))
   where
-    go : ShortSpan ids keys → (i : ℕ) → i < 64 → 1 ≤ ids i → (m ≡ 2_000_000_000) ⊎ ((j : ℕ) × (j < 64) × (1 ≤ ids j) × (m ≡ keys j)) → keys i ≤ m + 479
+    go : ShortSpan ids keys → (i : ℕ) → i < places → 1 ≤ ids i
+        → (m ≡ largest-key) ⊎ ((j : ℕ) × (j < places) × (1 ≤ ids j) × (m ≡ keys j)) → keys i ≤ m + key-span
     go span i inside holds (inl top) = omega (arith, range i inside holds)
     go span i inside holds (inr w) = omega (arith, span i (w .0) (inside, holds) (w .1, w .2), w .3)
 
 -- ids differ exactly if each is new where it stands
-once-from : (ids : ℕ → ℕ) → Below 64 (New ids) → (i j : ℕ) → Full ids i → Full ids j → ids i ≡ ids j → i ≡ j
+once-from : (ids : ℕ → ℕ) → Below places (New ids) → (i j : ℕ) → Full ids i → Full ids j → ids i ≡ ids j → i ≡ j
 once-from ids new i j hi hj same = go (decLt i j) (decLt j i)
   where
     go : Dec (i < j) → Dec (j < i) → i ≡ j
@@ -52,25 +54,25 @@ once-from ids new i j hi hj same = go (decLt i j) (decLt j i)
     go (no not-less) (yes more) = absurd (new i (hi .0) (hi .1) j more (sym same))
     go (no not-less) (no not-more) = omega arith
 
-once-to : (ids : ℕ → ℕ) → ((i j : ℕ) → Full ids i → Full ids j → ids i ≡ ids j → i ≡ j) → Below 64 (New ids)
+once-to : (ids : ℕ → ℕ) → ((i j : ℕ) → Full ids i → Full ids j → ids i ≡ ids j → i ≡ j) → Below places (New ids)
 once-to ids once i inside holds j less same =
     lt-irrefl i (omega (arith, once i j (inside, holds) (omega arith, rw same holds) (sym same)))
 
 module _ {ids keys releases : ℕ → ℕ} where
   -- of sound places no id is above 32,767 ..
-  pub places-range : PlacesSound ids keys releases → Below 64 (λ i. ids i ≤ 32767)
+  pub places-range : PlacesSound ids keys releases → Below places (λ i. ids i ≤ largest-id)
   places-range s i inside = go (decLt 0 (ids i))
     where
-      go : Dec (0 < ids i) → ids i ≤ 32767
+      go : Dec (0 < ids i) → ids i ≤ largest-id
       go (yes holds) = s .ids-in-range i (inside, holds)
       go (no free) = omega arith
 
   -- .. at sound places each id is new where it stands: no earlier place has it ..
-  pub places-new : PlacesSound ids keys releases → Below 64 (New ids)
+  pub places-new : PlacesSound ids keys releases → Below places (New ids)
   places-new s = once-to ids (s .once)
 
   -- .. at sound places no entry has a key above 2,000,000,000 ..
-  pub places-keys : PlacesSound ids keys releases → KeysWithin ids keys 2_000_000_000
+  pub places-keys : PlacesSound ids keys releases → KeysWithin ids keys largest-key
   places-keys s i inside holds = s .keys-in-range i (inside, holds)
 
   -- .. at sound places no entry has a release above its key ..
@@ -78,7 +80,7 @@ module _ {ids keys releases : ℕ → ℕ} where
   places-released s i inside holds = s .released i (inside, holds)
 
   -- .. and what they find together
-  pub places-last : {b : Bool} → Below 64 (λ i. ids i ≤ 32767) → Below 64 (New ids) → KeysWithin ids keys 2_000_000_000
+  pub places-last : {b : Bool} → Below places (λ i. ids i ≤ largest-id) → Below places (New ids) → KeysWithin ids keys largest-key
       → AllWithin ids releases keys → Decides b (ShortSpan ids keys) → Decides b (PlacesSound ids keys releases)
   places-last range new within before =
       same-as

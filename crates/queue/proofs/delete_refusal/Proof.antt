@@ -1,7 +1,7 @@
 -- `queue::delete_refusal` meets its contract: the tests are the refusals of delete, in their order.
 use Rattle.basics.specs.Facts.Decides.{failed, passed}
 use Rattle.queue.specs.Layout.{Sound}
-use Rattle.queue.specs.Layout.Answers.{zero-not-filed, filed-if, not-filed-if}
+use Rattle.queue.specs.Layout.Answers.{filed-if, not-filed-if}
 use Rattle.queue.proofs.Refused.{refuses-5, refuses-24, delete-answers-0}
 use borrow.Author.Needs.{needs}
 use Rattle.queue.proofs.delete_refusal.Statement.{statement}
@@ -16,29 +16,21 @@ returns c = refuses-5 (c .before .before .args .t1) _ (failed (c .before .is-sou
 sound : (c : tie.Else1) → Sound (c .before .before .args .t1)
 sound c = passed (c .before .is-sound .ensures) (c .if1 .left)
 
+place-holding-requires : tie.Need-place-holding-requires
+place-holding-requires c κs = search needs
+
 returns-2 : tie.Need-returns-2
 returns-2 c =
-    let a = c .before .before .before .args in
-    refuses-24 (a .t1) (sound (c .before)) (a .id) _ (zero-not-filed (a .t1) (a .id) (c .if2 .taken))
-
-place-of-requires : tie.Need-place-of-requires
-place-of-requires c κs = search needs
+    let a = c .before .before .before .before .before .before .args in
+    let place = c .before .place-holding in
+    refuses-24 (a .t1) (sound (c .before .before .before .before)) (a .id) _ (not-filed-if (a .t1) (a .id) (place .result) (place .ensures) (c .if2 .taken))
 
 returns-3 : tie.Need-returns-3
 returns-3 c =
-    let tested = c .before .before .before .before .before in
-    let a = tested .before .before .args in
-    let place = c .before .place-of in
-    refuses-24 (a .t1) (sound tested) (a .id) _ (not-filed-if (a .t1) (a .id) (place .result) (place .ensures) (c .if3 .taken))
-
-returns-4 : tie.Need-returns-4
-returns-4 c =
-    let numbered = c .before .before .before .before in
-    let tested = numbered .before in
-    let a = tested .before .before .args in
-    let place = c .before .place-of in
-    delete-answers-0 (a .t1) (a .id) (sound tested) (filed-if (a .t1) (a .id) (place .result) (numbered .if2 .left) (place .ensures) (c .if3 .left))
+    let a = c .before .before .before .before .before .before .args in
+    let place = c .before .place-holding in
+    delete-answers-0 (a .t1) (a .id) (sound (c .before .before .before .before)) (filed-if (a .t1) (a .id) (place .result) (place .ensures) (c .if2 .left) .0)
 
 pub delete-refusal-spec : {M : Type 1} → statement M
 delete-refusal-spec =
-    tie.close (tie.spec is-sound-requires returns returns-2 place-of-requires returns-3 returns-4)
+    tie.close (tie.spec is-sound-requires returns place-holding-requires returns-2 returns-3)

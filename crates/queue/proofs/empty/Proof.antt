@@ -4,6 +4,7 @@ use Prim.Native.Nat.{_-_}
 use native.Mathlib.Nat.{lt-irrefl}
 use native.Mathlib.Omega.{arith}
 use lib.ListN.{getD-replicate}
+use Rattle.basics.specs.Limits.{places}
 use Rattle.queue.specs.Layout.Heads.{HeadsAlone, one-head-more, all-alone}
 use Rattle.queue.proofs.empty.Statement.{statement}
 use Rattle.queue.proofs.empty.Tie as tie
@@ -21,7 +22,7 @@ loop-holds c =
       within = omega arith;
       size = refl;
       free = λ i below. getD-replicate 544 i 0 0 (omega arith);
-      alone = λ j low high. absurd (lt-irrefl 64 (omega (arith, low, high)));
+      alone = λ j low high. absurd (lt-irrefl places (omega (arith, low, high)));
     }
 
 cast-links : tie.Need-cast-links Inv-loop μ-loop

@@ -5,6 +5,7 @@ use Prim.Native.Nat.{ℕ, _+_, _-_, _≤_, _<_}
 use native.Mathlib.Nat.{lt-irrefl, mod-lt}
 use native.Mathlib.Decide.{decLe, ℕ-discrete}
 use native.Mathlib.Omega.{arith}
+use Rattle.basics.specs.Limits.{buckets, key-span, largest-key, places}
 use Rattle.places.specs.Order.{Entry, Before}
 use Rattle.places.specs.Soundness.{IsLeast}
 use Rattle.queue.specs.Layout.{id-at, key-at, release-at, next-at, prev-at, entry-at, Holds, IsNode, bucket-of-key, bucket-after, bucket-of, Sound}
@@ -16,14 +17,14 @@ use Rattle.queue.specs.declared.Queue.{Queue}
 
 -- at a bucket: no entry after the point has a key that was passed already
 pub record AtBucket (q : Queue) (from : ℕ) (point : Entry) (found bucket left : ℕ) : Type 0 where
-  pub unfound : found ≡ 64
-  pub within : left ≤ 480
-  pub is-bucket : bucket ≡ bucket-of-key (from + (480 - left))
-  pub ahead : (i : ℕ) → Holds q i → Before point (entry-at q i) → from + (480 - left) ≤ key-at q i
+  pub unfound : found ≡ places
+  pub within : left ≤ buckets
+  pub is-bucket : bucket ≡ bucket-of-key (from + (buckets - left))
+  pub ahead : (i : ℕ) → Holds q i → Before point (entry-at q i) → from + (buckets - left) ≤ key-at q i
 
 -- at a node of the bucket: no entry after the point lies before it
 pub record AtNode (q : Queue) (point : Entry) (found bucket n : ℕ) : Type 0 where
-  pub unfound : found ≡ 64
+  pub unfound : found ≡ places
   pub node : IsNode (rank-at q) n
   pub in-bucket : bucket-of (key-at q) n ≡ bucket
   pub ahead : (i : ℕ) → Holds q i → Before point (entry-at q i) → bucket-of-key (key-at q i) ≡ bucket → high (rank-at q) n ≤ rank-at q i
@@ -34,7 +35,7 @@ place-rank q i holds = rank-holds (release-at q i) (id-at q i) (holds .1)
 
 module _ (q : Queue) (sound : Sound q) (from : ℕ) (point : Entry) (start : SearchFrom q from point) where
   -- the search begins at the bucket of the key it starts from, with nothing found and 480 buckets left
-  pub at-first-bucket : (bucket : ℕ) → bucket ≡ bucket-of-key from → AtBucket q from point 64 bucket 480
+  pub at-first-bucket : (bucket : ℕ) → bucket ≡ bucket-of-key from → AtBucket q from point places bucket buckets
   at-first-bucket bucket is =
       record {
         unfound = refl;
@@ -44,8 +45,8 @@ module _ (q : Queue) (sound : Sound q) (from : ℕ) (point : Entry) (start : Sea
       }
 
   -- the bucket that the search is at is one of the 480
-  pub bucket-below : (found bucket left : ℕ) → AtBucket q from point found bucket left → bucket < 480
-  bucket-below found bucket left at = rw (at .is-bucket) (mod-lt (from + (480 - left)) {m = 480} (omega arith))
+  pub bucket-below : (found bucket left : ℕ) → AtBucket q from point found bucket left → bucket < buckets
+  bucket-below found bucket left at = rw (at .is-bucket) (mod-lt (from + (buckets - left)) {m = buckets} (omega arith))
 
   -- no entry of the bucket lies between a node and the next, so what is ahead of the node and not the node is ahead of the next
   pub ahead-of-next : (x i : ℕ) → IsNode (rank-at q) x → Holds q i → bucket-of (key-at q) x ≡ bucket-of-key (key-at q i)
@@ -60,9 +61,9 @@ module _ (q : Queue) (sound : Sound q) (from : ℕ) (point : Entry) (start : Sea
           (bucket ∙ sym (bucket-place (key-at q) i (holds .0))) above (omega arith))
 
   -- in a bucket the search begins at the node after the head, before which no entry of the bucket lies
-  pub at-first-node : (found bucket n : ℕ) → found ≡ 64 → bucket < 480 → n ≡ next-at q (64 + bucket) → AtNode q point found bucket n
+  pub at-first-node : (found bucket n : ℕ) → found ≡ places → bucket < buckets → n ≡ next-at q (places + bucket) → AtNode q point found bucket n
   at-first-node found bucket n unfound below is =
-      let h = 64 + bucket in
+      let h = places + bucket in
       let head : IsNode (rank-at q) h = inr (omega arith, omega arith) in
       let own : bucket-of (key-at q) h ≡ bucket = bucket-head (key-at q) h (omega arith) ∙ omega arith in
       let l = rank-links q sound h head in
@@ -75,7 +76,7 @@ module _ (q : Queue) (sound : Sound q) (from : ℕ) (point : Entry) (start : Sea
       })
 
   -- an entry that does not come after the point is passed, and the search is at the next node
-  pub at-next-node : (found bucket n m : ℕ) → AtNode q point found bucket n → n < 64
+  pub at-next-node : (found bucket n m : ℕ) → AtNode q point found bucket n → n < places
       → (Before point (entry-at q n) → ⊥) → m ≡ next-at q n → AtNode q point found bucket m
   at-next-node found bucket n m at inside not-after is =
       let l = rank-links q sound n (at .node) in
@@ -99,7 +100,7 @@ module _ (q : Queue) (sound : Sound q) (from : ℕ) (point : Entry) (start : Sea
 
   -- a bucket whose list is passed is passed
   pub at-next-bucket : (found₀ found bucket left n bucket′ left′ : ℕ) → AtBucket q from point found₀ bucket left → AtNode q point found bucket n
-      → 64 ≤ n → 0 < left → bucket′ ≡ bucket-after bucket → left′ ≡ left - 1 → AtBucket q from point found bucket′ left′
+      → places ≤ n → 0 < left → bucket′ ≡ bucket-after bucket → left′ ≡ left - 1 → AtBucket q from point found bucket′ left′
   at-next-bucket found₀ found bucket left n bucket′ left′ at node head some is less =
       record {
         unfound = node .unfound;
@@ -108,26 +109,26 @@ module _ (q : Queue) (sound : Sound q) (from : ℕ) (point : Entry) (start : Sea
         ahead = λ i holds after. go i holds after (ℕ-discrete (bucket-of-key (key-at q i)) bucket);
       }
     where
-      go : (i : ℕ) → Holds q i → Before point (entry-at q i) → Dec (bucket-of-key (key-at q i) ≡ bucket) → from + (480 - left′) ≤ key-at q i
+      go : (i : ℕ) → Holds q i → Before point (entry-at q i) → Dec (bucket-of-key (key-at q i) ≡ bucket) → from + (buckets - left′) ≤ key-at q i
       go i holds after (yes same) =
           absurd (lt-irrefl 0 (omega (arith, node .ahead i holds after same, high-head (rank-at q) n head, sound-rank q sound i holds)))
       go i holds after (no other) = omega (arith, at .ahead i holds after, at .is-bucket, at .within, less)
 
   -- the node where the search is left is the first after the point
   pub left-at-node : (found₀ found bucket left n : ℕ) → AtBucket q from point found₀ bucket left
-      → AtNode q point found bucket n → n < 64 → Before point (entry-at q n) → IsFirstAfter q point n
+      → AtNode q point found bucket n → n < places → Before point (entry-at q n) → IsFirstAfter q point n
   left-at-node found₀ found bucket left n at node inside after =
       let here = node-place q n (node .node) inside in
       let in-bucket : bucket-of-key (key-at q n) ≡ bucket = sym (bucket-place (key-at q) n inside) ∙ node .in-bucket in
-      let its-key : key-at q n ≡ from + (480 - left) = omega (arith, in-bucket, at .is-bucket, at .ahead n here after, start n here after .1, at .within) in
+      let its-key : key-at q n ≡ from + (buckets - left) = omega (arith, in-bucket, at .is-bucket, at .ahead n here after, start n here after .1, at .within) in
       record {
         within = omega arith;
         found = λ _. (here, after);
         first = λ _ i holds later before. no-earlier i holds later its-key in-bucket before;
-        none = λ e. absurd (lt-irrefl 64 (omega arith));
+        none = λ e. absurd (lt-irrefl places (omega arith));
       }
     where
-      no-earlier : (i : ℕ) → Holds q i → Before point (entry-at q i) → key-at q n ≡ from + (480 - left)
+      no-earlier : (i : ℕ) → Holds q i → Before point (entry-at q i) → key-at q n ≡ from + (buckets - left)
           → bucket-of-key (key-at q n) ≡ bucket → Before (entry-at q i) (entry-at q n) → ⊥
       no-earlier i holds later its-key in-bucket (inl less) = omega (arith, at .ahead i holds later)
       no-earlier i holds later its-key in-bucket (inr w) =
@@ -145,21 +146,22 @@ module _ (q : Queue) (sound : Sound q) (from : ℕ) (point : Entry) (start : Sea
       rw (at .unfound)
       (record {
         within = omega arith;
-        found = λ inside. absurd (lt-irrefl 64 inside);
-        first = λ inside. absurd (lt-irrefl 64 inside);
+        found = λ inside. absurd (lt-irrefl places inside);
+        first = λ inside. absurd (lt-irrefl places inside);
         none = λ _ i holds after. omega (arith, at .ahead i holds after, start i holds after .1);
       })
 
 -- whatever the point, every entry after it has its key among the 480 from the least key on
-pub from-least : (q : Queue) (least : ℕ) (point : Entry) → Sound q → IsLeast (id-at q) (key-at q) 64 least → SearchFrom q least point
+pub from-least : (q : Queue) (least : ℕ) (point : Entry) → Sound q → IsLeast (id-at q) (key-at q) places least → SearchFrom q least point
 from-least q least point sound is i holds after = (is .at-most i (holds .0) (holds .1), go (is .reached))
   where
-    go : (least ≡ 2_000_000_000) ⊎ ((j : ℕ) × (j < 64) × (1 ≤ id-at q j) × (least ≡ key-at q j)) → key-at q i ≤ least + 479
+    go : (least ≡ largest-key) ⊎ ((j : ℕ) × (j < places) × (1 ≤ id-at q j) × (least ≡ key-at q j)) → key-at q i ≤ least + key-span
     go (inl none) = omega (arith, sound .keys-in-range i holds)
     go (inr w) = omega (arith, sound .span i (w .0) holds (w .1, w .2), w .3)
 
 -- where the key of a point is above the least, every entry after the point has its key among the 480 from the point's on
-pub from-key : (q : Queue) (least : ℕ) (point : Entry) → Sound q → IsLeast (id-at q) (key-at q) 64 least → least < point .key → SearchFrom q (point .key) point
+pub from-key : (q : Queue) (least : ℕ) (point : Entry) → Sound q → IsLeast (id-at q) (key-at q) places least → least < point .key
+    → SearchFrom q (point .key) point
 from-key q least point sound is above i holds after =
     (not-before after, omega (arith, from-least q least point sound is i holds after .1))
   where

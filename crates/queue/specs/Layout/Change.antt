@@ -10,6 +10,7 @@ use native.Mathlib.Decide.{decLt, ℕ-discrete}
 use native.Mathlib.Omega.{arith}
 use lib.ListN.{length, set, length-set}
 use lib.Seq.{getD-set-same, set-getD, set-set}
+use Rattle.basics.specs.Limits.{largest-key, places}
 use Rattle.places.specs.Order.{Entry}
 use Rattle.places.specs.Entries.{put, without, filed-as, moved-on, Filed, InBounds}
 use Rattle.places.specs.Facts.Collected.{of-collected, in-collected, collected-full}
@@ -26,24 +27,24 @@ use Rattle.queue.specs.declared.Queue.{Queue}
 -- an id at a place is filed
 pub place-filed : (q : Queue) (i : ℕ) → Holds q i → Filed (id-at q i) (entries q)
 unfolding entries
-place-filed q i holds = ∣ (entry-at q i, in-collected (entry-at q) 64 i (holds .0) (holds .1), refl) ∣₁
+place-filed q i holds = ∣ (entry-at q i, in-collected (entry-at q) places i (holds .0) (holds .1), refl) ∣₁
 
 -- a filed id is 1 or more and has a place
 pub filed-place : (q : Queue) (id x : ℕ) → Filed id (entries q) → IsPlaceOf (q .ids) id x → Holds q x × (id-at q x ≡ id)
 unfolding entries
 filed-place q id x filed place =
     ∥∥₁-elim filed (×-prop (×-prop le-prop le-prop) (hedberg ℕ-discrete (id-at q x) id))
-    (λ w. ∥∥₁-elim (of-collected (entry-at q) 64 (w .0) (w .1)) (×-prop (×-prop le-prop le-prop) (hedberg ℕ-discrete (id-at q x) id))
+    (λ w. ∥∥₁-elim (of-collected (entry-at q) places (w .0) (w .1)) (×-prop (×-prop le-prop le-prop) (hedberg ℕ-discrete (id-at q x) id))
     (λ v. let there : id-at q (v .0) ≡ id = sym (ap (λ (e : Entry). e .id) (v .3)) ∙ w .2 in
-    go (v .0) (v .1) (rw there at (v .2)) there (decLt x 64)))
+    go (v .0) (v .1) (rw there at (v .2)) there (decLt x places)))
   where
-    go : (i : ℕ) → i < 64 → 1 ≤ id → id-at q i ≡ id → Dec (x < 64) → Holds q x × (id-at q x ≡ id)
+    go : (i : ℕ) → i < places → 1 ≤ id → id-at q i ≡ id → Dec (x < places) → Holds q x × (id-at q x ≡ id)
     go i below some there (yes inside) = let e = place .found inside in ((inside, rw e some), e)
     go i below some there (no outside) = absurd (place .absent (omega (arith, place .within)) i below there)
 
 -- an entry within the bounds whose id is new has a new rank
 new-id-rank : (q : Queue) → Sound q → (e : Entry) (r : ℕ) → IsNew q (e .id)
-    → e .release ≤ e .key → e .key ≤ 2_000_000_000 → r ≡ rank (e .release) (e .id) → IsNewRank q r
+    → e .release ≤ e .key → e .key ≤ largest-key → r ≡ rank (e .release) (e .id) → IsNewRank q r
 new-id-rank q sound e r new before within is =
     record {
       some = rw is (rank-holds (e .release) (e .id) (new .some));
@@ -61,15 +62,15 @@ module _ (q : Queue) (e : Entry) (can : CanInsert q e) where
       }
 
   -- with fewer than 64 entries some place is free
-  insert-place : (x : ℕ) → IsPlaceOf (q .ids) 0 x → x < 64
+  insert-place : (x : ℕ) → IsPlaceOf (q .ids) 0 x → x < places
   unfolding entries
-  insert-place x place = go (decLt x 64)
+  insert-place x place = go (decLt x places)
     where
-      go : Dec (x < 64) → x < 64
+      go : Dec (x < places) → x < places
       go (yes inside) = inside
       go (no outside) =
           let none = place .absent (omega (arith, place .within)) in
-          absurd (lt-irrefl 64 (omega (arith, collected-full (entry-at q) 64 (λ i below. positive (id-at q i) (none i below)), can .room)))
+          absurd (lt-irrefl places (omega (arith, collected-full (entry-at q) places (λ i below. positive (id-at q i) (none i below)), can .room)))
         where
           positive : (n : ℕ) → (n ≡ 0 → ⊥) → 1 ≤ n
           positive n other = omega arith
@@ -124,8 +125,8 @@ filed-as-only id (x ∷ xs) e m same only = go (ℕ-discrete (x .id) id) (λ m�
 pub filed-as-place : (q : Queue) → Sound q → (id x : ℕ) → Holds q x → id-at q x ≡ id → filed-as id (entries q) ≡ entry-at q x
 unfolding entries
 filed-as-place q sound id x there has =
-    filed-as-only id (entries q) (entry-at q x) (in-collected (entry-at q) 64 x (there .0) (there .1)) has
-    (λ d m same. ∥∥₁-elim (of-collected (entry-at q) 64 d m) (entry-set d (entry-at q x))
+    filed-as-only id (entries q) (entry-at q x) (in-collected (entry-at q) places x (there .0) (there .1)) has
+    (λ d m same. ∥∥₁-elim (of-collected (entry-at q) places d m) (entry-set d (entry-at q x))
     (λ w. w .3 ∙ ap (entry-at q) (sound-once q sound (w .0) x (w .1) (there .0) (w .2) (sym (ap (λ (e : Entry). e .id) (w .3)) ∙ (same ∙ sym has)))))
 
 -- what has been found of an id at its place is asked there of a move
@@ -160,7 +161,7 @@ module _ (q : Queue) (amount x : ℕ) (can-at : CanMoveAt q x amount) where
   its-bounds = subst (λ (e : Entry). InBounds (put (moved-on amount e) (without id (entries q)))) move-as (can-at .can .bounds)
 
   -- after the move the key is at most 2,000,000,000 and the release at most the key
-  pub move-fits : (key-at q x + amount ≤ 2_000_000_000) × (release-at q x + amount ≤ key-at q x + amount)
+  pub move-fits : (key-at q x + amount ≤ largest-key) × (release-at q x + amount ≤ key-at q x + amount)
   move-fits = (its-bounds .keys later (put-new later (without id (entries q))), its-bounds .released later (put-new later (without id (entries q))))
 
   -- with the id taken out of its place it can be filed there again

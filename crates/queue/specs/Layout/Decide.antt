@@ -4,6 +4,7 @@ use Prim.Native.Nat.{ℕ, _≤_, _<_}
 use native.Mathlib.Decide.{decLe, decLt, ℕ-discrete, map-dec}
 use native.Mathlib.Omega.{arith}
 use Rattle.basics.specs.Below.{decide-below, decide-implies}
+use Rattle.basics.specs.Limits.{places}
 use Rattle.places.specs.Order.{Entry, before}
 use Rattle.places.specs.Decide.{decide-places-sound}
 use Rattle.queue.specs.Layout.{id-at, key-at, release-at, entry-at, next-at, prev-at, IsNode, bucket-of, Linked, AllLinked, Sound}
@@ -11,15 +12,15 @@ use Rattle.queue.specs.Layout.SoundnessFacts.{sound-places, sound-from}
 use Rattle.queue.specs.declared.Queue.{Queue}
 
 decide-node : (ids : ℕ → ℕ) (x : ℕ) → Dec (IsNode ids x)
-decide-node ids x = go (Dec·and (decLt x 64) (decLe 1 (ids x))) (Dec·and (decLe 64 x) (decLt x 544))
+decide-node ids x = go (Dec·and (decLt x places) (decLe 1 (ids x))) (Dec·and (decLe places x) (decLt x 544))
   where
-    go : Dec ((x < 64) × (1 ≤ ids x)) → Dec ((64 ≤ x) × (x < 544)) → Dec (IsNode ids x)
+    go : Dec ((x < places) × (1 ≤ ids x)) → Dec ((places ≤ x) × (x < 544)) → Dec (IsNode ids x)
     go (yes place) head = yes (inl place)
     go (no place) (yes head) = yes (inr head)
     go (no place) (no head) = no (⊎-elim place head)
 
-decide-linked : (places : ℕ → Entry) (next prev : ℕ → ℕ) (x : ℕ) → Dec (Linked places next prev x)
-decide-linked places next prev x =
+decide-linked : (rows : ℕ → Entry) (next prev : ℕ → ℕ) (x : ℕ) → Dec (Linked rows next prev x)
+decide-linked rows next prev x =
     map-dec
     (λ w. record {
       next-is-node = w .0;
@@ -30,11 +31,11 @@ decide-linked places next prev x =
       prev-returns = w .1 .1 .1 .1 .1;
     })
     (λ l. (l .next-is-node, (l .next-in-bucket, (l .next-returns, (l .in-order, (l .prev-is-node, l .prev-returns))))))
-    (Dec·and (decide-node (λ i. places i .id) (next x))
-    (Dec·and (ℕ-discrete (bucket-of (λ i. places i .key) (next x)) (bucket-of (λ i. places i .key) x))
+    (Dec·and (decide-node (λ i. rows i .id) (next x))
+    (Dec·and (ℕ-discrete (bucket-of (λ i. rows i .key) (next x)) (bucket-of (λ i. rows i .key) x))
     (Dec·and (ℕ-discrete (prev (next x)) x)
-    (Dec·and (decide-implies (decLt x 64) (decide-implies (decLt (next x) 64) (before (places x) (places (next x)))))
-    (Dec·and (decide-node (λ i. places i .id) (prev x)) (ℕ-discrete (next (prev x)) x))))))
+    (Dec·and (decide-implies (decLt x places) (decide-implies (decLt (next x) places) (before (rows x) (rows (next x)))))
+    (Dec·and (decide-node (λ i. rows i .id) (prev x)) (ℕ-discrete (next (prev x)) x))))))
 
 decide-all-linked : (q : Queue) → Dec (AllLinked (entry-at q) (next-at q) (prev-at q))
 decide-all-linked q =

@@ -6,6 +6,7 @@ use mathlib.Core.List.{List, [], _∷_, List·Mem, Pairwise·filter, pairwise-co
 use Prim.Native.Nat.{ℕ, _<_}
 use native.Mathlib.Omega.{arith}
 use Rattle.basics.specs.Facts.Lexicographic.{then-zero}
+use Rattle.basics.specs.Limits.{places}
 use Rattle.places.specs.Order.{Entry, Before, before, triple}
 use Rattle.places.specs.Entries.{after}
 use Rattle.places.specs.Facts.Collected.{of-collected, in-collected, collected-in-order}
@@ -54,22 +55,22 @@ module _ (q : Queue) (sound : Sound q) (point : Entry) (x : ℕ) (is : IsFirstAf
   unfolding after entries
   of-after a m =
       let w = mem-filter (λ (e : Entry). before point e) {l = entries q} .0 m in
-      ∥∥₁-elim (of-collected (entry-at q) 64 a (w .0)) ∥∥₁-prop
+      ∥∥₁-elim (of-collected (entry-at q) places a (w .0)) ∥∥₁-prop
       (λ v. ∣ (v .0, (v .1, v .2), subst (λ (e : Entry). Before point e) (v .3) (w .1), v .3) ∣₁)
 
   -- where the search ends at a place, the first entry after the point is the one there, found with answer 0 ..
-  pub after-found : x < 64 → first-of d (after point (entries q)) ≡ record { answer = 0; key = key-at q x; release = release-at q x; id = id-at q x }
+  pub after-found : x < places → first-of d (after point (entries q)) ≡ record { answer = 0; key = key-at q x; release = release-at q x; id = id-at q x }
   unfolding after entries
   after-found inside =
       let here = is .found inside in
-      let in-order = collected-in-order (entry-at q) (sound-once q sound) 64 (omega arith) in
+      let in-order = collected-in-order (entry-at q) (sound-once q sound) places (omega arith) in
       first-is (after point (entries q)) (Pairwise·filter (λ (e : Entry). before point e) in-order) (entry-at q x)
-      (mem-filter (λ (e : Entry). before point e) .1 (in-collected (entry-at q) 64 x (here .0 .0) (here .0 .1), here .1))
+      (mem-filter (λ (e : Entry). before point e) .1 (in-collected (entry-at q) places x (here .0 .0) (here .0 .1), here .1))
       (λ a m earlier. ∥∥₁-elim (of-after a m) ⊥-prop
       (λ w. is .first inside (w .0) (w .1) (w .2) (subst (λ (e : Entry). Before e (entry-at q x)) (w .3) earlier))) d sound
 
   -- .. and where it ends with 64 there is none: 25 and zeros
-  pub after-none : x ≡ 64 → first-of d (after point (entries q)) ≡ refused-find 25
+  pub after-none : x ≡ places → first-of d (after point (entries q)) ≡ refused-find 25
   after-none none = none-is (after point (entries q)) (λ a m. ∥∥₁-elim (of-after a m) ⊥-prop (λ w. is .none none (w .0) (w .1) (w .2))) d sound
 
 -- every entry comes after key 0, release 0 and id 0, since ids are 1 or more
@@ -77,9 +78,9 @@ pub all-after-zero : (q : Queue) → after (triple 0 0 0) (entries q) ≡ entrie
 unfolding after entries
 all-after-zero q =
     filter-eq-self (λ (e : Entry). before (triple 0 0 0) e) {l = entries q} .1
-    (λ a m. ∥∥₁-elim (of-collected (entry-at q) 64 a m) (before-prop (triple 0 0 0) a)
+    (λ a m. ∥∥₁-elim (of-collected (entry-at q) places a m) (before-prop (triple 0 0 0) a)
     (λ w. subst⁻¹ (Before (triple 0 0 0)) (w .3) (then-zero (key-at q (w .0)) (then-zero (release-at q (w .0)) (w .2)))))
 
 -- a search that does not end with 64 ends at a place
-pub found-inside : {q : Queue} {point : Entry} {x : ℕ} → IsFirstAfter q point x → (x ≡ 64 → ⊥) → x < 64
+pub found-inside : {q : Queue} {point : Entry} {x : ℕ} → IsFirstAfter q point x → (x ≡ places → ⊥) → x < places
 found-inside is some = omega (arith, is .within)

@@ -10,6 +10,7 @@ use lib.ListN.{length, drop, getD, set, length-set}
 use lib.Seq.{drop-cons, getD-set-same, getD-set-other}
 use Rattle.basics.specs.Facts.Members.{getD-mem}
 use Rattle.basics.specs.Facts.Lexicographic.{then-zero}
+use Rattle.basics.specs.Limits.{largest-key, places}
 use Rattle.places.specs.Order.{Entry, Before, before, triple}
 use Rattle.places.specs.Entries.{after}
 use Rattle.places.specs.Facts.Entries.{InOrder, entry-path, before-asym, before-prop}
@@ -50,8 +51,8 @@ pub record Met (q : Queue) (count k key n : ℕ) (placed : Placed) : Type 0 wher
   pub stands : k < count → StandsAt q key n
   pub cursor : k < count → after (point-at q key n) (entries q) ≡ drop k (entries q)
   pub node : n < 544
-  pub long-ids : length (placed .ids) ≡ 64
-  pub long-places : length (placed .places) ≡ 64
+  pub long-ids : length (placed .ids) ≡ places
+  pub long-places : length (placed .places) ≡ places
 
 -- an entry stored as the k-th
 abbrev pub with-place : Placed → (k id place : ℕ) → Placed
@@ -60,19 +61,19 @@ with-place placed k id place = record { ids = set (placed .ids) k id; places = s
 module _ (q : Queue) (sound : Sound q) (count : ℕ) (some : count ≤ length (entries q)) where
   ordered : InOrder (entries q)
   unfolding entries
-  ordered = collected-in-order (entry-at q) (sound-once q sound) 64 (omega arith)
+  ordered = collected-in-order (entry-at q) (sound-once q sound) places (omega arith)
 
-  entries-at-most : length (entries q) ≤ 64
+  entries-at-most : length (entries q) ≤ places
   unfolding entries
-  entries-at-most = collected-length (entry-at q) 64
+  entries-at-most = collected-length (entry-at q) places
 
   -- at most 64 entries are filed, so those asked for are counted below 64
-  pub in-room : (k : ℕ) → k < count → k < 64
+  pub in-room : (k : ℕ) → k < count → k < places
   in-room k below = omega (arith, some, entries-at-most)
 
   -- it begins at the head of the least key's bucket
-  pub none-met : (key n : ℕ) (placed : Placed) → length (placed .ids) ≡ 64 → length (placed .places) ≡ 64 → IsLeast (id-at q) (key-at q) 64 key
-      → n ≡ 64 + bucket-of-key key → Met q count 0 key n placed
+  pub none-met : (key n : ℕ) (placed : Placed) → length (placed .ids) ≡ places → length (placed .places) ≡ places → IsLeast (id-at q) (key-at q) places key
+      → n ≡ places + bucket-of-key key → Met q count 0 key n placed
   unfolding after entries
   none-met key n placed long-ids long-places least is =
       record {
@@ -85,20 +86,20 @@ module _ (q : Queue) (sound : Sound q) (count : ℕ) (some : count ≤ length (e
               held = go (least .reached) (getD-mem (entries q) 0 no-entry (omega (arith, some, more)));
             };
         cursor = λ more. filter-eq-self (λ (e : Entry). before (point-at q key n) e) .1
-            (λ e m. ∥∥₁-elim (of-collected (entry-at q) 64 e m) (before-prop (point-at q key n) e)
+            (λ e m. ∥∥₁-elim (of-collected (entry-at q) places e m) (before-prop (point-at q key n) e)
             (λ w. subst⁻¹ (Before (point-at q key n)) (w .3) (later (w .0) (least .at-most (w .0) (w .1) (w .2)) (w .2) (decLt key (key-at q (w .0))))));
         node = omega (arith, is, head-below key);
         long-ids = long-ids;
         long-places = long-places;
       }
     where
-      head : 64 ≤ n
+      head : places ≤ n
       head = omega (arith, is)
 
-      go : (key ≡ 2_000_000_000) ⊎ ((j : ℕ) × (j < 64) × (1 ≤ id-at q j) × (key ≡ key-at q j)) → List·Mem (getD (entries q) 0 no-entry) (entries q)
+      go : (key ≡ largest-key) ⊎ ((j : ℕ) × (j < places) × (1 ≤ id-at q j) × (key ≡ key-at q j)) → List·Mem (getD (entries q) 0 no-entry) (entries q)
           → ∥ ((j : ℕ) × Holds q j × (key-at q j ≡ key)) ∥₁
       go (inl top) m =
-          ∥∥₁-map (of-collected (entry-at q) 64 (getD (entries q) 0 no-entry) m)
+          ∥∥₁-map (of-collected (entry-at q) places (getD (entries q) 0 no-entry) m)
           (λ w. let holds : Holds q (w .0) = (w .1, w .2) in
           (w .0, holds, omega (arith, top, least .at-most (w .0) (w .1) (w .2), sound .keys-in-range (w .0) holds)))
       go (inr w) m = ∣ (w .0, (w .1, w .2), sym (w .3)) ∣₁
@@ -120,7 +121,7 @@ module _ (q : Queue) (sound : Sound q) (count : ℕ) (some : count ≤ length (e
       first-left = ap (first-of (decide-sound q)) rest ∙ first-some (decide-sound q) sound entry-k (drop (suc k) (entries q))
 
       -- one is left, so one is found
-      pub found-place : x < 64
+      pub found-place : x < places
       found-place =
           found-inside is
           (λ none. let absent : 25 ≡ 0 = ap (λ (f : Found). f .answer) (sym (after-none q sound (point-at q key n) x is (decide-sound q) none) ∙ first-left) in

@@ -8,6 +8,8 @@ use native.Mathlib.Bridge.{le-prop}
 use native.Mathlib.Decide.{ℕ-discrete}
 use native.Mathlib.Omega.{arith}
 use lib.ListN.{length, getD-replicate}
+use Rattle.basics.specs.Limits.{largest-id, places}
+use Rattle.basics.specs.OneTo.{OneTo}
 use Rattle.places.specs.Order.{Entry}
 use Rattle.places.specs.Entries.{put, without, moved-on}
 use Rattle.places.specs.Facts.Entries.{InOrder, entry-set, in-put, put-new, put-old}
@@ -22,7 +24,7 @@ use Rattle.queue.specs.declared.Queue.{Queue}
 -- the empty queue is sound and has no entry
 pub empty-has-none : HasEntries empty-queue []
 unfolding empty-queue
-empty-has-none = alone-empty empty-queue (λ i below. getD-replicate 64 i 0 0 below) lone-heads-alone lone-heads-alone
+empty-has-none = alone-empty empty-queue (λ i below. getD-replicate places i 0 0 below) lone-heads-alone lone-heads-alone
 
 -- No two entries have one id.
 abbrev pub AreOnce : List Entry → Type 0
@@ -32,26 +34,26 @@ module _ (q : Queue) (sound : Sound q) where
   -- entries are in order, by key, then release, then id
   pub entries-in-order : InOrder (entries q)
   unfolding entries
-  entries-in-order = collected-in-order (entry-at q) (sound-once q sound) 64 (omega arith)
+  entries-in-order = collected-in-order (entry-at q) (sound-once q sound) places (omega arith)
 
   -- there are at most 64
-  pub entries-at-most : length (entries q) ≤ 64
+  pub entries-at-most : length (entries q) ≤ places
   unfolding entries
-  entries-at-most = collected-length (entry-at q) 64
+  entries-at-most = collected-length (entry-at q) places
 
   -- ids are 1 to 32,767 ..
-  pub entry-id-in-range : (e : Entry) → List·Mem e (entries q) → (1 ≤ e .id) × (e .id ≤ 32767)
+  pub entry-id-in-range : (e : Entry) → List·Mem e (entries q) → OneTo largest-id (e .id)
   unfolding entries
   entry-id-in-range e m =
-      ∥∥₁-elim (of-collected (entry-at q) 64 e m) (×-prop le-prop le-prop)
-      (λ w. subst⁻¹ (λ (a : Entry). (1 ≤ a .id) × (a .id ≤ 32767)) (w .3) (w .2, sound .ids-in-range (w .0) (w .1, w .2)))
+      ∥∥₁-elim (of-collected (entry-at q) places e m) (×-prop le-prop le-prop)
+      (λ w. subst⁻¹ (λ (a : Entry). OneTo largest-id (a .id)) (w .3) (w .2, sound .ids-in-range (w .0) (w .1, w .2)))
 
   -- .. and each is filed once
   pub entry-once : AreOnce (entries q)
   unfolding entries
   entry-once d e md me same =
-      ∥∥₁-elim (of-collected (entry-at q) 64 d md) (entry-set d e)
-      (λ v. ∥∥₁-elim (of-collected (entry-at q) 64 e me) (entry-set d e)
+      ∥∥₁-elim (of-collected (entry-at q) places d md) (entry-set d e)
+      (λ v. ∥∥₁-elim (of-collected (entry-at q) places e me) (entry-set d e)
       (λ w. v .3
       ∙ (ap (entry-at q)
       (sound-once q sound (v .0) (w .0) (v .1) (w .1) (v .2) (sym (ap (λ (a : Entry). a .id) (v .3)) ∙ (same ∙ ap (λ (a : Entry). a .id) (w .3))))

@@ -5,6 +5,7 @@ use Prim.Native.Nat.{ℕ, _-_, _≤_, _<_}
 use native.Mathlib.Nat.{lt-irrefl}
 use native.Mathlib.Decide.{decLt, ℕ-discrete}
 use native.Mathlib.Omega.{arith}
+use Rattle.basics.specs.Limits.{places}
 use Rattle.places.specs.Changes.{IsSet}
 use Rattle.queue.specs.Layout.{IsNode, bucket-of-key, bucket-of}
 use Rattle.queue.specs.Layout.Ranks.{low, high, RankLinked, AllRankLinked, low-place, high-place, bucket-place}
@@ -17,15 +18,15 @@ module _ (ids ids′ keys keys′ : ℕ → ℕ) (y : ℕ) (same-id : ids′ y �
 
   keep-low : low ids′ y ≡ low ids y
   unfolding low
-  keep-low = ap (λ (v : ℕ). ite (decLt y 64) v 0) same-id
+  keep-low = ap (λ (v : ℕ). ite (decLt y places) v 0) same-id
 
   keep-high : high ids′ y ≡ high ids y
   unfolding high
-  keep-high = ap (λ (v : ℕ). ite (decLt y 64) v 65_536_000_032_768) same-id
+  keep-high = ap (λ (v : ℕ). ite (decLt y places) v 65_536_000_032_768) same-id
 
   keep-bucket : bucket-of keys′ y ≡ bucket-of keys y
   unfolding bucket-of
-  keep-bucket = ap (λ (v : ℕ). ite (decLt y 64) (bucket-of-key v) (y - 64)) same-key
+  keep-bucket = ap (λ (v : ℕ). ite (decLt y places) (bucket-of-key v) (y - places)) same-key
 
 -- the two halves of RankLinked: the link to the next node, and the link to the one before
 abbrev NextOk : (ids keys next prev : ℕ → ℕ) → ℕ → Type 0
@@ -57,7 +58,7 @@ module _ (ids ids′ keys keys′ next′ prev′ : ℕ → ℕ) (y z : ℕ)
 -- the links after an entry is put between a node p and the next one
 module _ (ids ids′ keys keys′ next next′ prev prev′ : ℕ → ℕ) (x id key p : ℕ)
     (linked : AllRankLinked ids keys next prev) (set-id : IsSet ids x id ids′) (set-key : IsSet keys x key keys′)
-    (inside : x < 64) (free : ids x ≡ 0) (some : 1 ≤ id) (p-node : IsNode ids p) (bucket : bucket-of keys p ≡ bucket-of-key key)
+    (inside : x < places) (free : ids x ≡ 0) (some : 1 ≤ id) (p-node : IsNode ids p) (bucket : bucket-of keys p ≡ bucket-of-key key)
     (above : low ids p < id) (below : id < high ids (next p))
     (from-p : next′ p ≡ x) (from-x : next′ x ≡ next p) (next-else : (y : ℕ) → (y ≡ p → ⊥) → (y ≡ x → ⊥) → next′ y ≡ next y)
     (to-n : prev′ (next p) ≡ x) (to-x : prev′ x ≡ p) (prev-else : (y : ℕ) → (y ≡ next p → ⊥) → (y ≡ x → ⊥) → prev′ y ≡ prev y) where
@@ -130,10 +131,21 @@ module _ (ids ids′ keys keys′ next next′ prev prev′ : ℕ → ℕ) (x id
           let old = put-node y node other in
           both-ok ids′ keys′ next′ prev′ y (next-elsewhere y old (ℕ-discrete y p)) (prev-elsewhere y old (ℕ-discrete y (next p)))
 
+module _ (ranks keys next prev : ℕ → ℕ) (x : ℕ) (linked : RankLinked ranks keys next prev x) (inside : x < places) where
+  -- ranks rise past an entry, so it is neither its own next ..
+  pub next-differs : next x ≡ x → ⊥
+  next-differs e =
+      let rises = rw (low-place ranks x inside) at (linked .in-order) in
+      lt-irrefl (ranks x) (subst (λ (z : ℕ). ranks x < z) (ap (high ranks) e ∙ high-place ranks x inside) rises)
+
+  -- .. nor its own previous
+  pub prev-differs : prev x ≡ x → ⊥
+  prev-differs e = next-differs (sym (ap next e) ∙ linked .prev-returns)
+
 -- the links after an entry x is taken out
 module _ (ids ids′ keys keys′ next next′ prev prev′ : ℕ → ℕ) (x key : ℕ)
     (linked : AllRankLinked ids keys next prev) (set-id : IsSet ids x 0 ids′) (set-key : IsSet keys x key keys′)
-    (inside : x < 64) (holds : 1 ≤ ids x)
+    (inside : x < places) (holds : 1 ≤ ids x)
     (over : next′ (prev x) ≡ next x) (next-rest : (y : ℕ) → (y ≡ prev x → ⊥) → (y ≡ x → ⊥) → next′ y ≡ next y)
     (under : prev′ (next x) ≡ prev x) (prev-rest : (y : ℕ) → (y ≡ next x → ⊥) → (y ≡ x → ⊥) → prev′ y ≡ prev y) where
   gone : RankLinked ids keys next prev x
@@ -141,15 +153,6 @@ module _ (ids ids′ keys keys′ next next′ prev prev′ : ℕ → ℕ) (x ke
 
   before-gone : RankLinked ids keys next prev (prev x)
   before-gone = linked (prev x) (gone .prev-is-node)
-
-  -- ids rise past x, so x is neither its own next nor its own previous
-  next-differs : next x ≡ x → ⊥
-  next-differs e =
-      let rises = rw (low-place ids x inside) at (gone .in-order) in
-      lt-irrefl (ids x) (subst (λ (z : ℕ). ids x < z) (ap (high ids) e ∙ high-place ids x inside) rises)
-
-  prev-differs : prev x ≡ x → ⊥
-  prev-differs e = next-differs (sym (ap next e) ∙ gone .prev-returns)
 
   left-node : (y : ℕ) → IsNode ids′ y → (y ≡ x → ⊥) × IsNode ids y
   left-node y (inl place) =
@@ -160,12 +163,18 @@ module _ (ids ids′ keys keys′ next next′ prev prev′ : ℕ → ℕ) (x ke
   stays : (y : ℕ) → (y ≡ x → ⊥) → (ids′ y ≡ ids y) × (keys′ y ≡ keys y)
   stays y other = (set-id .elsewhere y other, set-key .elsewhere y other)
 
+  next-stays : (ids′ (next x) ≡ ids (next x)) × (keys′ (next x) ≡ keys (next x))
+  next-stays = stays (next x) (next-differs ids keys next prev x gone inside)
+
+  prev-stays : (ids′ (prev x) ≡ ids (prev x)) × (keys′ (prev x) ≡ keys (prev x))
+  prev-stays = stays (prev x) (prev-differs ids keys next prev x gone inside)
+
   next-left : (y : ℕ) → IsNode ids y → (y ≡ x → ⊥) → Dec (y ≡ prev x) → NextOk ids′ keys′ next′ prev′ y
   next-left y node other (yes e) =
       let up-to-x = rw (gone .prev-returns, high-place ids x inside) at (before-gone .in-order) in
       let on-from-x = rw (low-place ids x inside) at (gone .in-order) in
       subst⁻¹ (NextOk ids′ keys′ next′ prev′) e
-      (next-kept ids ids′ keys keys′ next′ prev′ (prev x) (next x) (stays (prev x) prev-differs) (stays (next x) next-differs) (gone .next-is-node)
+      (next-kept ids ids′ keys keys′ next′ prev′ (prev x) (next x) prev-stays next-stays (gone .next-is-node)
       (gone .next-in-bucket ∙ (ap (bucket-of keys) (sym (gone .prev-returns)) ∙ before-gone .next-in-bucket)) (omega arith) over under)
   next-left y node other (no not-p) =
       let l = linked y node in
@@ -177,7 +186,7 @@ module _ (ids ids′ keys keys′ next next′ prev prev′ : ℕ → ℕ) (x ke
   prev-left : (y : ℕ) → IsNode ids y → (y ≡ x → ⊥) → Dec (y ≡ next x) → PrevOk ids′ next′ prev′ y
   prev-left y node other (yes e) =
       subst⁻¹ (PrevOk ids′ next′ prev′) e
-      (prev-kept ids ids′ keys keys′ next′ prev′ (next x) (prev x) (stays (next x) next-differs) (stays (prev x) prev-differs) (gone .prev-is-node) under over)
+      (prev-kept ids ids′ keys keys′ next′ prev′ (next x) (prev x) next-stays prev-stays (gone .prev-is-node) under over)
   prev-left y node other (no not-n) =
       let l = linked y node in
       let not-x : prev y ≡ x → ⊥ = λ e. not-n (sym (l .prev-returns) ∙ ap next e) in

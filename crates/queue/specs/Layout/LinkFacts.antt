@@ -7,15 +7,16 @@ use native.Mathlib.Nat.{lt-irrefl}
 use native.Mathlib.Decide.{decLt}
 use native.Mathlib.Omega.{arith}
 use lib.WfN.{Nat·lt-wfRel}
+use Rattle.basics.specs.Limits.{places}
 use Rattle.queue.specs.Layout.{IsNode, bucket-of}
 use Rattle.queue.specs.Layout.Ranks.{low, high, RankLinked, AllRankLinked, low-place, low-head, high-place, bucket-head}
 
 -- a node with a low end above 0 is an entry
-positive-low : (ranks : ℕ → ℕ) (x : ℕ) → IsNode ranks x → 0 < low ranks x → (x < 64) × (1 ≤ ranks x)
+positive-low : (ranks : ℕ → ℕ) (x : ℕ) → IsNode ranks x → 0 < low ranks x → (x < places) × (1 ≤ ranks x)
 positive-low ranks x (inl place) some = place
 positive-low ranks x (inr head) some = absurd (lt-irrefl 0 (omega (arith, low-head ranks x (head .0), some)))
 
-module _ (ranks keys next prev : ℕ → ℕ) (once : (i j : ℕ) → i < 64 → j < 64 → 1 ≤ ranks i → ranks i ≡ ranks j → i ≡ j)
+module _ (ranks keys next prev : ℕ → ℕ) (once : (i j : ℕ) → i < places → j < places → 1 ≤ ranks i → ranks i ≡ ranks j → i ≡ j)
     (linked : AllRankLinked ranks keys next prev) where
   -- nodes of one bucket with the same low end are one
   same-low : (x y : ℕ) → IsNode ranks x → IsNode ranks y → bucket-of keys x ≡ bucket-of keys y → low ranks x ≡ low ranks y → x ≡ y
@@ -25,12 +26,12 @@ module _ (ranks keys next prev : ℕ → ℕ) (once : (i j : ℕ) → i < 64 →
   same-low x y (inr a) (inr b) bucket same = omega (arith, bucket-head keys x (a .0), bucket-head keys y (b .0), bucket)
 
   -- no entry of a bucket lies between a node and the next
-  pub none-between : (y : ℕ) → y < 64 → 1 ≤ ranks y → (x : ℕ) → IsNode ranks x
+  pub none-between : (y : ℕ) → y < places → 1 ≤ ranks y → (x : ℕ) → IsNode ranks x
       → bucket-of keys x ≡ bucket-of keys y → low ranks x < ranks y → ranks y < high ranks (next x) → ⊥
   none-between y inside holds = recursion (Nat·lt-wfRel .wf) {C = Clear} (ranks y) step y inside holds refl
     where
       Clear : ℕ → Type 0
-      Clear n = (y : ℕ) → y < 64 → 1 ≤ ranks y → ranks y ≡ n → (x : ℕ) → IsNode ranks x
+      Clear n = (y : ℕ) → y < places → 1 ≤ ranks y → ranks y ≡ n → (x : ℕ) → IsNode ranks x
           → bucket-of keys x ≡ bucket-of keys y → low ranks x < ranks y → ranks y < high ranks (next x) → ⊥
 
       step : (n : ℕ) → ((m : ℕ) → m < n → Clear m) → Clear n

@@ -5,6 +5,7 @@ use Prim.Native.Nat.{ℕ, suc, _+_, _≤_, _<_}
 use native.Mathlib.Numerals.{add-one}
 use native.Mathlib.Omega.{arith}
 use lib.ListN.{getD}
+use Rattle.basics.specs.Limits.{places}
 use Rattle.places.specs.Entries.{InBounds}
 use Rattle.queue.specs.Layout.{id-at, Holds, entries}
 use Rattle.queue.specs.Calls.{moved, HasEntries}
@@ -26,7 +27,7 @@ module _ (q : Queue) (placed : Placed) (amounts : List ℕ) (n : ℕ) (can : Can
   none-moved shape = record { shape = shape; has-entries = record { sound = can .sound; content = refl }; ids = refl }
 
   -- a run has at most 64 moves, so each is counted below 64
-  pub turn-below : (k : ℕ) → k < n → k < 64
+  pub turn-below : (k : ℕ) → k < n → k < places
   turn-below k more = omega (arith, can .few)
 
   module _ (k : ℕ) (more : k < n) (r : Queue) (moving : Moving q placed amounts k r) where

@@ -7,6 +7,7 @@ use native.Mathlib.Nat.{lt-irrefl}
 use native.Mathlib.Decide.{decLe, decLt}
 use native.Mathlib.Omega.{arith}
 use Rattle.basics.specs.Lexicographic.{Then}
+use Rattle.basics.specs.Limits.{largest-id, places}
 use Rattle.queue.specs.Layout.{id-at, release-at, IsNode, bucket-of-key, bucket-of}
 use Rattle.queue.specs.declared.Queue.{Queue}
 
@@ -19,10 +20,10 @@ rank-at q i = rank (release-at q i) (id-at q i)
 
 -- Ranks rise along a list from its head, which counts as 0 where the list leaves it and as more than any rank where the list comes back to it.
 unfoldable pub low : (ranks : ℕ → ℕ) → ℕ → ℕ
-low ranks x = ite (decLt x 64) (ranks x) 0
+low ranks x = ite (decLt x places) (ranks x) 0
 
 unfoldable pub high : (ranks : ℕ → ℕ) → ℕ → ℕ
-high ranks x = ite (decLt x 64) (ranks x) 65_536_000_032_768
+high ranks x = ite (decLt x places) (ranks x) 65_536_000_032_768
 
 -- A node that is linked, its order told by ranks.
 pub record RankLinked (ranks keys next prev : ℕ → ℕ) (x : ℕ) : Type 0 where
@@ -59,16 +60,16 @@ holds-rank release id some = go (decLe 1 id)
     go (no free) = absurd (lt-irrefl 0 (omega (arith, rank-none release id (omega arith))))
 
 -- ranks of ids below 32,768 are in order by release, then id, and tell the ids apart
-pub rank-id : (r s i j : ℕ) → 1 ≤ i → i ≤ 32767 → 1 ≤ j → j ≤ 32767 → rank r i ≡ rank s j → i ≡ j
+pub rank-id : (r s i j : ℕ) → 1 ≤ i → i ≤ largest-id → 1 ≤ j → j ≤ largest-id → rank r i ≡ rank s j → i ≡ j
 rank-id r s i j some-i small-i some-j small-j same = omega (arith, rank-some r i some-i, rank-some s j some-j)
 
 -- what comes first by release, then id, has the smaller rank ..
-pub rank-less : (r s i j : ℕ) → 1 ≤ i → i ≤ 32767 → 1 ≤ j → Then r s (i < j) → rank r i < rank s j
+pub rank-less : (r s i j : ℕ) → 1 ≤ i → i ≤ largest-id → 1 ≤ j → Then r s (i < j) → rank r i < rank s j
 rank-less r s i j some-i small-i some-j (inl less) = omega (arith, rank-some r i some-i, rank-some s j some-j)
 rank-less r s i j some-i small-i some-j (inr w) = omega (arith, rank-some r i some-i, rank-some s j some-j, w .0, w .1)
 
 -- .. and what has the smaller rank comes first by release, then id
-pub less-rank : (r s i j : ℕ) → 1 ≤ i → 1 ≤ j → j ≤ 32767 → rank r i < rank s j → Then r s (i < j)
+pub less-rank : (r s i j : ℕ) → 1 ≤ i → 1 ≤ j → j ≤ largest-id → rank r i < rank s j → Then r s (i < j)
 less-rank r s i j some-i some-j small-j less = go (decLt r s)
   where
     go : Dec (r < s) → Then r s (i < j)
@@ -77,31 +78,31 @@ less-rank r s i j some-i some-j small-j less = go (decLt r s)
         inr (e, omega (arith, rank-some r i some-i, rank-some s j some-j, less, e))
 
 -- low and high of an entry are its rank; a head is below and above every rank
-pub low-place : (ranks : ℕ → ℕ) (x : ℕ) → x < 64 → low ranks x ≡ ranks x
+pub low-place : (ranks : ℕ → ℕ) (x : ℕ) → x < places → low ranks x ≡ ranks x
 unfolding low
-low-place ranks x inside = if-pos (decLt x 64) inside (ranks x) 0
+low-place ranks x inside = if-pos (decLt x places) inside (ranks x) 0
 
 -- a head counts as 0 where its list leaves it
-pub low-head : (ranks : ℕ → ℕ) (x : ℕ) → 64 ≤ x → low ranks x ≡ 0
+pub low-head : (ranks : ℕ → ℕ) (x : ℕ) → places ≤ x → low ranks x ≡ 0
 unfolding low
-low-head ranks x head = if-neg (decLt x 64) (λ l. omega arith) (ranks x) 0
+low-head ranks x head = if-neg (decLt x places) (λ l. omega arith) (ranks x) 0
 
 -- an entry counts as its rank where the list comes to it ..
-pub high-place : (ranks : ℕ → ℕ) (x : ℕ) → x < 64 → high ranks x ≡ ranks x
+pub high-place : (ranks : ℕ → ℕ) (x : ℕ) → x < places → high ranks x ≡ ranks x
 unfolding high
-high-place ranks x inside = if-pos (decLt x 64) inside (ranks x) 65_536_000_032_768
+high-place ranks x inside = if-pos (decLt x places) inside (ranks x) 65_536_000_032_768
 
 -- .. and a head as 65,536,000,032,768 where its list comes back to it
-pub high-head : (ranks : ℕ → ℕ) (x : ℕ) → 64 ≤ x → high ranks x ≡ 65_536_000_032_768
+pub high-head : (ranks : ℕ → ℕ) (x : ℕ) → places ≤ x → high ranks x ≡ 65_536_000_032_768
 unfolding high
-high-head ranks x head = if-neg (decLt x 64) (λ l. omega arith) (ranks x) 65_536_000_032_768
+high-head ranks x head = if-neg (decLt x places) (λ l. omega arith) (ranks x) 65_536_000_032_768
 
 -- a place is in the bucket of its key ..
-pub bucket-place : (keys : ℕ → ℕ) (x : ℕ) → x < 64 → bucket-of keys x ≡ bucket-of-key (keys x)
+pub bucket-place : (keys : ℕ → ℕ) (x : ℕ) → x < places → bucket-of keys x ≡ bucket-of-key (keys x)
 unfolding bucket-of
-bucket-place keys x inside = if-pos (decLt x 64) inside (bucket-of-key (keys x)) (x - 64)
+bucket-place keys x inside = if-pos (decLt x places) inside (bucket-of-key (keys x)) (x - places)
 
 -- .. and a head in the bucket that is numbered 64 below it
-pub bucket-head : (keys : ℕ → ℕ) (x : ℕ) → 64 ≤ x → bucket-of keys x ≡ x - 64
+pub bucket-head : (keys : ℕ → ℕ) (x : ℕ) → places ≤ x → bucket-of keys x ≡ x - places
 unfolding bucket-of
-bucket-head keys x head = if-neg (decLt x 64) (λ l. omega arith) (bucket-of-key (keys x)) (x - 64)
+bucket-head keys x head = if-neg (decLt x places) (λ l. omega arith) (bucket-of-key (keys x)) (x - places)

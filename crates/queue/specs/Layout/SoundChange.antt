@@ -8,15 +8,16 @@ use native.Mathlib.Decide.{ℕ-discrete}
 use native.Mathlib.Omega.{arith}
 use lib.ListN.{length, getD, set, length-set}
 use lib.Seq.{getD-set-same, getD-set-other}
+use Rattle.basics.specs.Limits.{largest-id, places}
 use Rattle.places.specs.Order.{Entry, triple}
 use Rattle.places.specs.Entries.{put, without, InBounds}
 use Rattle.places.specs.Changes.{IsSet}
 use Rattle.places.specs.Facts.Collected.{put-once, put-collected, taken-once, taken-collected}
 use Rattle.places.specs.Facts.Entries.{entry-path}
 use Rattle.queue.specs.Layout.{id-at, key-at, release-at, entry-at, next-at, prev-at, Holds, entries, IsNode, bucket-of, Sound}
-use Rattle.queue.specs.Layout.Ranks.{rank, rank-at, high, RankLinked, AllRankLinked, low-place, high-place, rank-none, rank-holds}
+use Rattle.queue.specs.Layout.Ranks.{rank, rank-at, RankLinked, AllRankLinked, rank-none, rank-holds}
 use Rattle.queue.specs.Layout.SoundRanks.{node-below, sound-once, sound-in-bounds, made-sound, rank-links}
-use Rattle.queue.specs.Layout.LinkChange.{put-linked, taken-linked}
+use Rattle.queue.specs.Layout.LinkChange.{next-differs, prev-differs, put-linked, taken-linked}
 use Rattle.queue.specs.Linking.{HasShape, put-before, taken-out, IsPosition}
 use Rattle.queue.specs.declared.Queue.{Queue}
 
@@ -40,8 +41,8 @@ rank-set-at q q′ x e set =
     }
 
 module _ (q : Queue) (sound : Sound q) (shape : HasShape q) (x : ℕ) (e : Entry) (n : ℕ)
-    (inside : x < 64) (free : id-at q x ≡ 0) (some : 1 ≤ e .id) (small : e .id ≤ 32767)
-    (unused : (i : ℕ) → i < 64 → id-at q i ≡ e .id → ⊥) (position : IsPosition q (e .key) (rank (e .release) (e .id)) n) where
+    (inside : x < places) (free : id-at q x ≡ 0) (some : 1 ≤ e .id) (small : e .id ≤ largest-id)
+    (unused : (i : ℕ) → i < places → id-at q i ≡ e .id → ⊥) (position : IsPosition q (e .key) (rank (e .release) (e .id)) n) where
   q′ : Queue
   q′ = put-before q x e n
 
@@ -100,11 +101,11 @@ module _ (q : Queue) (sound : Sound q) (shape : HasShape q) (x : ℕ) (e : Entry
   put-sound bounds =
       made-sound q′ range (put-once (entry-at q) (entry-at q′) x e inside set-entry free some (sound-once q sound) unused) (rw put-entries bounds) links′
     where
-      range : (i : ℕ) → Holds q′ i → id-at q′ i ≤ 32767
+      range : (i : ℕ) → Holds q′ i → id-at q′ i ≤ largest-id
       range i holds = go (ℕ-discrete i x)
         where
-          go : Dec (i ≡ x) → id-at q′ i ≤ 32767
-          go (yes same) = subst⁻¹ (λ (j : ℕ). id-at q′ j ≤ 32767) same (subst⁻¹ (λ (a : Entry). a .id ≤ 32767) (set-entry .at) small)
+          go : Dec (i ≡ x) → id-at q′ i ≤ largest-id
+          go (yes same) = subst⁻¹ (λ (j : ℕ). id-at q′ j ≤ largest-id) same (subst⁻¹ (λ (a : Entry). a .id ≤ largest-id) (set-entry .at) small)
           go (no other) =
               let old = ap (λ (a : Entry). a .id) (set-entry .elsewhere i other) in
               rw old (sound .ids-in-range i (holds .0, rw old at (holds .1)))
@@ -150,15 +151,6 @@ module _ (q : Queue) (sound : Sound q) (shape : HasShape q) (x : ℕ) (holds : H
   unfolding entries out
   taken-entries = taken-collected (entry-at q) (entry-at out) x (triple 0 0 0) (holds .0) free-entry refl (holds .1) (sound-once q sound)
 
-  -- ranks rise, so neither neighbour is x itself
-  next-apart : next-at q x ≡ x → ⊥
-  next-apart e =
-      let rises = rw (low-place (rank-at q) x (holds .0)) at (there .in-order) in
-      lt-irrefl (rank-at q x) (subst (λ (z : ℕ). rank-at q x < z) (ap (high (rank-at q)) e ∙ high-place (rank-at q) x (holds .0)) rises)
-
-  prev-apart : prev-at q x ≡ x → ⊥
-  prev-apart e = next-apart (sym (ap (next-at q) e) ∙ there .prev-returns)
-
   -- and the queue is still sound
   pub taken-sound : Sound (taken-out q x)
   unfolding out
@@ -168,6 +160,8 @@ module _ (q : Queue) (sound : Sound q) (shape : HasShape q) (x : ℕ) (holds : H
       let p-below = node-below (rank-at q) p (there .prev-is-node) in
       let n-below = node-below (rank-at q) n (there .next-is-node) in
       let ranked = rank-holds (release-at q x) (id-at q x) (holds .1) in
+      let n-differs = next-differs (rank-at q) (key-at q) (next-at q) (prev-at q) x there (holds .0) in
+      let p-differs = prev-differs (rank-at q) (key-at q) (next-at q) (prev-at q) x there (holds .0) in
       made-sound out
       (λ i held.
       let other : i ≡ x → ⊥ = λ e. lt-irrefl 0 (omega (arith, subst (λ (j : ℕ). 1 ≤ id-at out j) e (held .1), ap (λ (a : Entry). a .id) (free-entry .at))) in
@@ -177,7 +171,7 @@ module _ (q : Queue) (sound : Sound q) (shape : HasShape q) (x : ℕ) (holds : H
       (rw taken-entries (fewer-in-bounds (entries q) (without (id-at q x) (entries q)) (in-without (id-at q x) (entries q)) (sound-in-bounds q sound)))
       (taken-linked (rank-at q) (rank-at out) (key-at q) (key-at out) (next-at q) (next-at out) (prev-at q) (prev-at out) x 0
       (rank-links q sound) freed-rank free-key (holds .0) ranked
-      (getD-set-other (set (q .next) p n) x p 0 0 prev-apart ∙ getD-set-same (q .next) p n 0 (omega (arith, shape .next)))
+      (getD-set-other (set (q .next) p n) x p 0 0 p-differs ∙ getD-set-same (q .next) p n 0 (omega (arith, shape .next)))
       (λ y not-p not-here. getD-set-other (set (q .next) p n) x y 0 0 not-here ∙ getD-set-other (q .next) p y n 0 not-p)
-      (getD-set-other (set (q .prev) n p) x n 0 0 next-apart ∙ getD-set-same (q .prev) n p 0 (omega (arith, shape .prev)))
+      (getD-set-other (set (q .prev) n p) x n 0 0 n-differs ∙ getD-set-same (q .prev) n p 0 (omega (arith, shape .prev)))
       (λ y not-n not-here. getD-set-other (set (q .prev) n p) x y 0 0 not-here ∙ getD-set-other (q .prev) n y p 0 not-n))

@@ -8,6 +8,7 @@ use native.Mathlib.Nat.{lt-irrefl}
 use native.Mathlib.Decide.{decLe}
 use native.Mathlib.Omega.{arith}
 use Rattle.basics.specs.Facts.Lexicographic.{then-rest}
+use Rattle.basics.specs.Limits.{key-span, largest-id, largest-key, places}
 use Rattle.places.specs.Order.{Before}
 use Rattle.places.specs.Entries.{InBounds}
 use Rattle.places.specs.Collected.{Once}
@@ -31,16 +32,16 @@ pub sound-in-bounds : (q : Queue) → Sound q → InBounds (entries q)
 unfolding entries
 sound-in-bounds q sound =
     record {
-      keys = λ e m. ∥∥₁-elim (of-collected (entry-at q) 64 e m) le-prop (λ w. rw (w .3) (sound .keys-in-range (w .0) (w .1, w .2)));
-      released = λ e m. ∥∥₁-elim (of-collected (entry-at q) 64 e m) le-prop (λ w. rw (w .3) (sound .released (w .0) (w .1, w .2)));
+      keys = λ e m. ∥∥₁-elim (of-collected (entry-at q) places e m) le-prop (λ w. rw (w .3) (sound .keys-in-range (w .0) (w .1, w .2)));
+      released = λ e m. ∥∥₁-elim (of-collected (entry-at q) places e m) le-prop (λ w. rw (w .3) (sound .released (w .0) (w .1, w .2)));
       span = λ d e md me.
-          ∥∥₁-elim (of-collected (entry-at q) 64 d md) le-prop
-          (λ v. ∥∥₁-elim (of-collected (entry-at q) 64 e me) le-prop (λ w. rw (v .3, w .3) (sound .span (v .0) (w .0) (v .1, v .2) (w .1, w .2))));
+          ∥∥₁-elim (of-collected (entry-at q) places d md) le-prop
+          (λ v. ∥∥₁-elim (of-collected (entry-at q) places e me) le-prop (λ w. rw (v .3, w .3) (sound .span (v .0) (w .0) (v .1, v .2) (w .1, w .2))));
     }
 
 in-entries : (q : Queue) (i : ℕ) → Holds q i → List·Mem (entry-at q i) (entries q)
 unfolding entries
-in-entries q i holds = in-collected (entry-at q) 64 i (holds .0) (holds .1)
+in-entries q i holds = in-collected (entry-at q) places i (holds .0) (holds .1)
 
 -- a node is one by its rank as by its id
 rank-node : (q : Queue) (x : ℕ) → IsNode (rank-at q) x → IsNode (id-at q) x
@@ -52,19 +53,19 @@ node-rank q x (inl place) = inl (place .0, rank-holds (release-at q x) (id-at q 
 node-rank q x (inr head) = inr head
 
 -- a node below 64 is a place that holds an entry
-pub node-place : (q : Queue) (n : ℕ) → IsNode (rank-at q) n → n < 64 → Holds q n
+pub node-place : (q : Queue) (n : ℕ) → IsNode (rank-at q) n → n < places → Holds q n
 node-place q n (inl place) inside = (inside, holds-rank (release-at q n) (id-at q n) (place .1))
-node-place q n (inr head) inside = absurd (lt-irrefl 64 (omega (arith, head .0)))
+node-place q n (inr head) inside = absurd (lt-irrefl places (omega (arith, head .0)))
 
 abbrev ShortSpan : Queue → Type 0
-ShortSpan q = (i j : ℕ) → Holds q i → Holds q j → key-at q i ≤ key-at q j + 479
+ShortSpan q = (i j : ℕ) → Holds q i → Holds q j → key-at q i ≤ key-at q j + key-span
 
 -- keys of one bucket that are at most 479 apart are one
 one-key : (q : Queue) → ShortSpan q → (i j : ℕ) → Holds q i → Holds q j → bucket-of (key-at q) j ≡ bucket-of (key-at q) i → key-at q i ≡ key-at q j
 one-key q span i j hi hj same = omega (arith, span i j hi hj, span j i hj hi, same, bucket-place (key-at q) i (hi .0), bucket-place (key-at q) j (hj .0))
 
 -- nodes that are linked by their ranks are linked ..
-ranks-linked : (q : Queue) → ((i : ℕ) → Holds q i → id-at q i ≤ 32767) → ShortSpan q
+ranks-linked : (q : Queue) → ((i : ℕ) → Holds q i → id-at q i ≤ largest-id) → ShortSpan q
     → AllRankLinked (rank-at q) (key-at q) (next-at q) (prev-at q) → AllLinked (entry-at q) (next-at q) (prev-at q)
 ranks-linked q range span linked x node =
     let l = linked x (node-rank q x node) in
@@ -86,7 +87,7 @@ ranks-linked q range span linked x node =
     }
 
 -- ids in range, ids apart, entries within the bounds, and links: that is all there is to soundness
-pub made-sound : (q : Queue) → ((i : ℕ) → Holds q i → id-at q i ≤ 32767) → Once (id-at q)
+pub made-sound : (q : Queue) → ((i : ℕ) → Holds q i → id-at q i ≤ largest-id) → Once (id-at q)
     → InBounds (entries q) → AllRankLinked (rank-at q) (key-at q) (next-at q) (prev-at q) → Sound q
 made-sound q range once bounds links =
     record {
@@ -102,7 +103,7 @@ made-sound q range once bounds links =
     span i j hi hj = bounds .span (entry-at q i) (entry-at q j) (in-entries q i hi) (in-entries q j hj)
 
 -- ranks in a sound queue are below that of a head that the list comes back to
-pub rank-small : (release key id : ℕ) → release ≤ key → key ≤ 2_000_000_000 → id ≤ 32767 → rank release id < 65_536_000_032_768
+pub rank-small : (release key id : ℕ) → release ≤ key → key ≤ largest-key → id ≤ largest-id → rank release id < 65_536_000_032_768
 rank-small release key id before within small = go (decLe 1 id)
   where
     go : Dec (1 ≤ id) → rank release id < 65_536_000_032_768
@@ -117,7 +118,7 @@ sound-rank q sound i holds =
 -- .. and in a sound queue nodes are linked by their ranks
 module _ (q : Queue) (sound : Sound q) (x : ℕ) where
   by-rank : (n : ℕ) → IsNode (id-at q) x → IsNode (id-at q) n → bucket-of (key-at q) n ≡ bucket-of (key-at q) x
-      → (x < 64 → n < 64 → Before (entry-at q x) (entry-at q n)) → low (rank-at q) x < high (rank-at q) n
+      → (x < places → n < places → Before (entry-at q x) (entry-at q n)) → low (rank-at q) x < high (rank-at q) n
   by-rank n (inr head) (inr on) bucket order = omega (arith, low-head (rank-at q) x (head .0), high-head (rank-at q) n (on .0))
   by-rank n (inr head) (inl on) bucket order =
       let ranked = rank-holds (release-at q n) (id-at q n) (on .1) in
@@ -143,8 +144,8 @@ module _ (q : Queue) (sound : Sound q) (x : ℕ) where
       }
 
 -- a new id has a new rank
-pub new-rank : (q : Queue) → Sound q → (release id : ℕ) → 1 ≤ id → id ≤ 32767
-    → ((i : ℕ) → i < 64 → id-at q i ≡ id → ⊥) → (i : ℕ) → i < 64 → rank-at q i ≡ rank release id → ⊥
+pub new-rank : (q : Queue) → Sound q → (release id : ℕ) → 1 ≤ id → id ≤ largest-id
+    → ((i : ℕ) → i < places → id-at q i ≡ id → ⊥) → (i : ℕ) → i < places → rank-at q i ≡ rank release id → ⊥
 new-rank q sound release id some small unused i below same = go (decLe 1 (id-at q i))
   where
     go : Dec (1 ≤ id-at q i) → ⊥

@@ -9,6 +9,7 @@ use lib.Dec.{ltb, eqb}
 use Rattle.basics.specs.Below.{Between}
 use Rattle.basics.specs.Decides.{Decides}
 use Rattle.basics.specs.Facts.Decides.{same-as, less-than, equal-to}
+use Rattle.basics.specs.Limits.{places}
 use Rattle.places.specs.Order.{Entry, Before}
 use Rattle.places.specs.Soundness.{PlacesSound}
 use Rattle.queue.specs.Layout.{id-at, key-at, release-at, entry-at, next-at, prev-at, IsNode, bucket-of, Linked, AllLinked, Sound}
@@ -16,19 +17,19 @@ use Rattle.queue.specs.declared.Queue.{Queue}
 use Rattle.queue.specs.Layout.Soundness.{EntryNext, HeadRight, NextRight, PlaceRight, PrevRight}
 
 -- a place is a node if it has an id
-pub place-node : (ids : ℕ → ℕ) (x : ℕ) → x < 64 → Decides (ltb 0 (ids x)) (IsNode ids x)
+pub place-node : (ids : ℕ → ℕ) (x : ℕ) → x < places → Decides (ltb 0 (ids x)) (IsNode ids x)
 place-node ids x inside = same-as (λ l. inl (inside, l)) back (less-than 0 (ids x))
   where
     back : IsNode ids x → 0 < ids x
     back (inl place) = place .1
-    back (inr head) = absurd (lt-irrefl 64 (omega (arith, head .0)))
+    back (inr head) = absurd (lt-irrefl places (omega (arith, head .0)))
 
 -- from 64 on a number is a node exactly if it is below 544
-pub head-node : (ids : ℕ → ℕ) (x : ℕ) → 64 ≤ x → Decides (ltb x 544) (IsNode ids x)
+pub head-node : (ids : ℕ → ℕ) (x : ℕ) → places ≤ x → Decides (ltb x 544) (IsNode ids x)
 head-node ids x head = same-as (λ l. inr (head, l)) back (less-than x 544)
   where
     back : IsNode ids x → x < 544
-    back (inl place) = absurd (lt-irrefl 64 (omega (arith, place .0)))
+    back (inl place) = absurd (lt-irrefl places (omega (arith, place .0)))
     back (inr w) = w .1
 
 -- the last test of each link
@@ -43,28 +44,28 @@ prev-last {x = x} {on = on} node is-on =
     same-as (λ e. record { node = node; returns = sym is-on ∙ e }) (λ r. is-on ∙ r .returns) (equal-to on x)
 
 -- a node is linked by its two links, n the next node and p the one before ..
-module _ {places : ℕ → Entry} {next prev : ℕ → ℕ} {x n p : ℕ} (on : n ≡ next x) (back : p ≡ prev x) where
+module _ {rows : ℕ → Entry} {next prev : ℕ → ℕ} {x n p : ℕ} (on : n ≡ next x) (back : p ≡ prev x) where
   -- .. it is linked if its link on to n and its link back to p are right ..
-  pub linked-from : EntryNext places prev x n → PrevRight (λ i. places i .id) next x p → Linked places next prev x
+  pub linked-from : EntryNext rows prev x n → PrevRight (λ i. rows i .id) next x p → Linked rows next prev x
   linked-from r l =
       record {
         next-is-node = rw (← on) (r .0 .node);
-        next-in-bucket = ap (bucket-of (λ i. places i .key)) (sym on) ∙ r .0 .bucket;
+        next-in-bucket = ap (bucket-of (λ i. rows i .key)) (sym on) ∙ r .0 .bucket;
         next-returns = ap prev (sym on) ∙ r .0 .returns;
-        in-order = λ _. subst (λ (m : ℕ). m < 64 → Before (places x) (places m)) on (r .1);
+        in-order = λ _. subst (λ (m : ℕ). m < places → Before (rows x) (rows m)) on (r .1);
         prev-is-node = rw (← back) (l .node);
         prev-returns = ap next (sym back) ∙ l .returns;
       }
 
   -- .. and has them
-  pub linked-next : x < 64 → Linked places next prev x → EntryNext places prev x n
+  pub linked-next : x < places → Linked rows next prev x → EntryNext rows prev x n
   linked-next inside l = (
-    record { node = rw on (l .next-is-node); bucket = ap (bucket-of (λ i. places i .key)) on ∙ l .next-in-bucket; returns = ap prev on ∙ l .next-returns },
-    subst⁻¹ (λ (m : ℕ). m < 64 → Before (places x) (places m)) on (l .in-order inside),
+    record { node = rw on (l .next-is-node); bucket = ap (bucket-of (λ i. rows i .key)) on ∙ l .next-in-bucket; returns = ap prev on ∙ l .next-returns },
+    subst⁻¹ (λ (m : ℕ). m < places → Before (rows x) (rows m)) on (l .in-order inside),
   )
 
   -- the link of a linked node to the one before it is right
-  pub linked-prev : Linked places next prev x → PrevRight (λ i. places i .id) next x p
+  pub linked-prev : Linked rows next prev x → PrevRight (λ i. rows i .id) next x p
   linked-prev l = record { node = rw back (l .prev-is-node); returns = ap next back ∙ l .prev-returns }
 
 -- the links of a head, each by the node that it leads to
@@ -76,26 +77,26 @@ pub prev-of : {ids next : ℕ → ℕ} {x m p : ℕ} → m ≡ p → PrevRight i
 prev-of {ids} {next} {x} same = subst (PrevRight ids next x) same
 
 -- places and heads are all the nodes
-pub all-from : {places : ℕ → Entry} {next prev : ℕ → ℕ} → Between 0 64 (PlaceRight places next prev)
-    → Between 64 544 (HeadRight (λ i. places i .id) (λ i. places i .key) next prev) → AllLinked places next prev
+pub all-from : {rows : ℕ → Entry} {next prev : ℕ → ℕ} → Between 0 places (PlaceRight rows next prev)
+    → Between places 544 (HeadRight (λ i. rows i .id) (λ i. rows i .key) next prev) → AllLinked rows next prev
 all-from held heads x (inl place) = held x (omega arith) (place .0) (place .1)
-all-from {places} {next} {prev} held heads x (inr head) = let w = heads x (head .0) (head .1) in
+all-from {rows} {next} {prev} held heads x (inr head) = let w = heads x (head .0) (head .1) in
     record {
       next-is-node = w .0 .node;
       next-in-bucket = w .0 .bucket;
       next-returns = w .0 .returns;
-      in-order = λ inside. absurd (lt-irrefl 64 (omega (arith, inside, head .0)));
+      in-order = λ inside. absurd (lt-irrefl places (omega (arith, inside, head .0)));
       prev-is-node = w .1 .node;
       prev-returns = w .1 .returns;
     }
 
 -- where every node is linked, each place that holds an entry is ..
-pub all-places : {places : ℕ → Entry} {next prev : ℕ → ℕ} → AllLinked places next prev → Between 0 64 (PlaceRight places next prev)
+pub all-places : {rows : ℕ → Entry} {next prev : ℕ → ℕ} → AllLinked rows next prev → Between 0 places (PlaceRight rows next prev)
 all-places all x _ inside some = all x (inl (inside, some))
 
 -- .. and each head has its two links right
-pub all-heads : {places : ℕ → Entry} {next prev : ℕ → ℕ} → AllLinked places next prev
-    → Between 64 544 (HeadRight (λ i. places i .id) (λ i. places i .key) next prev)
+pub all-heads : {rows : ℕ → Entry} {next prev : ℕ → ℕ} → AllLinked rows next prev
+    → Between places 544 (HeadRight (λ i. rows i .id) (λ i. rows i .key) next prev)
 all-heads all x head below =
     let l = all x (inr (head, below)) in
     (record { node = l .next-is-node; bucket = l .next-in-bucket; returns = l .next-returns }, record { node = l .prev-is-node; returns = l .prev-returns })

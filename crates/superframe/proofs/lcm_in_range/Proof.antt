@@ -4,8 +4,8 @@ use native.Mathlib.Nat.{lt-irrefl, lt-of-lt-of-le}
 use native.Mathlib.Omega.{arith}
 use lib.ListN.{length, take, getD}
 use lib.Seq.{take-all}
-use Rattle.superframe.specs.Periods.{InRange}
-use Rattle.superframe.specs.Multiples.{WithinLimit}
+use Rattle.basics.specs.Limits.{longest-frame, longest-period}
+use Rattle.basics.specs.OneTo.{OneTo}
 use Rattle.superframe.proofs.Prefix.{mem-getD}
 use Rattle.superframe.proofs.Fold.{Folded, folded-none, folded-next, folded-done}
 use Rattle.superframe.proofs.lcm_in_range.Statement.{statement}
@@ -22,7 +22,8 @@ loop-holds c = (omega arith, folded-none)
 
 -- past the test of the limit m is within it, and the period at the place is in range
 past-test : (c : tie.Else1 Inv-loop μ-loop)
-    → WithinLimit (c .before .before .loop .m) × InRange (getD (c .before .before .before .before .args .periods .now) (c .before .before .loop .at) 0)
+    → OneTo longest-frame (c .before .before .loop .m)
+    × OneTo longest-period (getD (c .before .before .before .before .args .periods .now) (c .before .before .loop .at) 0)
 past-test c =
     let start = c .before .before .before .before in
     let loop = c .before .before .loop in
@@ -33,7 +34,7 @@ returns : tie.Need-returns Inv-loop μ-loop
 returns c =
     let periods = c .before .before .before .before .args .periods .now in
     let loop = c .before .before .loop in
-    folded-done periods (loop .at) (loop .m) (loop .inv .1) (λ low. absurd (lt-irrefl 5040 (lt-of-lt-of-le (c .if1 .taken) low)))
+    folded-done periods (loop .at) (loop .m) (loop .inv .1) (λ low. absurd (lt-irrefl longest-frame (lt-of-lt-of-le (c .if1 .taken) low)))
 
 shared-slice-read-lcm-within-limit : tie.Need-shared-slice-read-lcm-within-limit Inv-loop μ-loop
 shared-slice-read-lcm-within-limit c = omega arith

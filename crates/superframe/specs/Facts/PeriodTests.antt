@@ -10,6 +10,7 @@ use native.Mathlib.Decide.{ℕ-discrete}
 use native.Mathlib.Omega.{arith}
 use lib.Dec.{leb}
 use borrow.Author.Tests.{leb-true}
+use Rattle.basics.specs.Limits.{longest-period}
 use Rattle.superframe.specs.Periods.{AllInRange, IsCommonMultiple, IsLcm}
 
 -- what n leaves over when it is divided by the periods, added up: 0 where every period divides n
@@ -25,7 +26,7 @@ none-up-to ps (suc b) = leb 1 (remainders ps (suc b)) && none-up-to ps b
 -- every period is 1 to 240
 unfoldable pub ranges : List ℕ → Bool
 ranges [] = true
-ranges (p ∷ ps) = leb 1 p && (leb p 240 && ranges ps)
+ranges (p ∷ ps) = leb 1 p && (leb p longest-period && ranges ps)
 
 divided : (ps : List ℕ) (n : ℕ) → remainders ps n ≡ 0 → (p : ℕ) → List·Mem p ps → p ∣ n
 unfolding remainders
@@ -57,9 +58,9 @@ pub in-range : (ps : List ℕ) → So (ranges ps) → AllInRange ps
 unfolding ranges
 in-range [] tested = λ p m. absurd (not-mem-nil m)
 in-range (x ∷ xs) tested =
-    let low = and-eq-true-iff (leb 1 x) (leb x 240 && ranges xs) .0 tested in
-    let high = and-eq-true-iff (leb x 240) (ranges xs) .0 (low .1) in
-    forall-mem-cons (λ p. ×-prop le-prop le-prop) .1 ((leb-true 1 x (low .0), leb-true x 240 (high .0)), in-range xs (high .1))
+    let low = and-eq-true-iff (leb 1 x) (leb x longest-period && ranges xs) .0 tested in
+    let high = and-eq-true-iff (leb x longest-period) (ranges xs) .0 (low .1) in
+    forall-mem-cons (λ p. ×-prop le-prop le-prop) .1 ((leb-true 1 x (low .0), leb-true x longest-period (high .0)), in-range xs (high .1))
 
 -- m is the least common multiple if every period divides it and none does all of that from 1 up to just below it
 pub tested-lcm : (ps : List ℕ) (b : ℕ) → remainders ps (suc b) ≡ 0 → So (none-up-to ps b) → IsLcm ps (suc b)

@@ -4,22 +4,19 @@ use native.Mathlib.Nat.{lt-irrefl, lt-of-lt-of-le}
 use native.Mathlib.Omega.{arith}
 use borrow.Author.Count.{below-none, below-more}
 use Rattle.basics.specs.Facts.Decides.{decides-yes, decides-no, failed, passed}
+use Rattle.basics.specs.Limits.{largest-key, places}
 use Rattle.places.specs.Changes.{PlaceFits}
-use borrow.Author.Needs.{needs}
 use Rattle.places.proofs.changes.key_fits.Statement.{statement}
 use Rattle.places.proofs.changes.key_fits.Tie as tie
 
 abbrev Inv-loop : tie.InvT-loop
-Inv-loop ids keys out key i₀ i = (i ≤ 64) × ((j : ℕ) → j < i → PlaceFits ids keys out key j)
+Inv-loop ids keys out key i₀ i = (i ≤ places) × ((j : ℕ) → j < i → PlaceFits ids keys out key j)
 
 abbrev μ-loop : tie.MeasureT-loop
-μ-loop ids keys out key i₀ i = 64 - i
-
-cast-if1 : tie.Need-cast-if1 Inv-loop μ-loop
-cast-if1 c = search needs
+μ-loop ids keys out key i₀ i = places - i
 
 returns : tie.Need-returns Inv-loop μ-loop
-returns c = decides-no (λ fits. lt-irrefl 2_000_000_000 (lt-of-lt-of-le (c .if1 .taken) (fits .0)))
+returns c = decides-no (λ fits. lt-irrefl largest-key (lt-of-lt-of-le (c .if1 .taken) (fits .0)))
 
 loop-holds : tie.Need-loop-holds Inv-loop μ-loop
 loop-holds c = (omega arith, below-none _)
@@ -51,7 +48,6 @@ key-fits-spec =
     (tie.spec
     Inv-loop
     μ-loop
-    cast-if1
     returns
     loop-holds
     place-fits-requires

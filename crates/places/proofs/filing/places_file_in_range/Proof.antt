@@ -11,6 +11,7 @@ use Rattle.places.specs.Order.{triple}
 use Rattle.places.specs.Entries.{row-of}
 use Rattle.places.specs.Filing.{IsRow}
 use Rattle.basics.specs.NewIds.{at}
+use Rattle.basics.specs.Limits.{places}
 use Rattle.places.specs.Facts.Filing.{FiledTo, filed-none, filed-free, counted-few, filed-all, row-absent, row-again, row-new}
 use Rattle.places.specs.Facts.Marks.{no-marks}
 use Rattle.places.proofs.filing.places_file_in_range.Statement.{statement}
@@ -18,10 +19,10 @@ use Rattle.places.proofs.filing.places_file_in_range.Tie as tie
 
 abbrev Inv-loop : tie.InvT-loop
 Inv-loop filed under since ids keys releases count met₀ n₀ x₀ met n x =
-    (x ≤ 64) × ((length met ≡ 64) × FiledTo (row-of filed under since) (row-of ids keys releases) count x n (at met))
+    (x ≤ places) × ((length met ≡ places) × FiledTo (row-of filed under since) (row-of ids keys releases) count x n (at met))
 
 abbrev μ-loop : tie.MeasureT-loop
-μ-loop filed under since ids keys releases count met₀ n₀ x₀ met n x = 64 - x
+μ-loop filed under since ids keys releases count met₀ n₀ x₀ met n x = places - x
 
 -- the row found is that of the entry at the place
 at-place :
@@ -33,7 +34,7 @@ at-place filed under since {ids} {keys} {releases} {n} x {id} {r} same row =
     subst (λ (i : ℕ). IsRow ids keys releases n (triple (at under x) (at since x) i) r) same row
 
 loop-holds : tie.Need-loop-holds Inv-loop μ-loop
-loop-holds c = (omega arith, (refl, filed-none _ (no-marks 64)))
+loop-holds c = (omega arith, (refl, filed-none _ (no-marks places)))
 
 mul-wide : tie.Need-mul-wide Inv-loop μ-loop
 mul-wide c = search needs
@@ -125,7 +126,7 @@ loop-again c =
 returns-3 : tie.Need-returns-3 Inv-loop μ-loop
 returns-3 c =
     let loop = c .before .loop in
-    let e : loop .x ≡ 64 = omega arith in
+    let e : loop .x ≡ places = omega arith in
     filed-all (c .before .before .pre .ascend) (rw e at (loop .inv .1 .1))
 
 pub places-file-in-range-spec : {M : Type 1} → statement M

@@ -2,6 +2,7 @@
 use mathlib.Core.Path.{ap}
 use native.Mathlib.Nat.{lt-irrefl}
 use native.Mathlib.Omega.{arith}
+use Rattle.basics.specs.Limits.{places}
 use Rattle.places.specs.Order.{Entry, triple}
 use Rattle.places.specs.Facts.Entries.{entry-path}
 use Rattle.places.specs.Facts.Filing.{no-row-at}
@@ -63,7 +64,7 @@ returns-5 c =
     let start = below .before .before in
     record {
       found = λ _. (below .if1 .left, entry-path _ (row start) (c .before .before .if3 .left) (c .if4 .left) (c .before .before .before .before .if2 .left));
-      absent = λ none. absurd (lt-irrefl 64 (omega (arith, none, below .if1 .left, start .pre .few)));
+      absent = λ none. absurd (lt-irrefl places (omega (arith, none, below .if1 .left, start .pre .few)));
     }
 
 pub row-in-range-spec : {M : Type 1} → statement M

@@ -6,15 +6,16 @@ use borrow.Author.Needs.{needs}
 use Rattle.basics.specs.Facts.Decides.{decides-no, decides-yes, failed, passed}
 use Rattle.basics.specs.Below.{Below}
 use Rattle.basics.specs.NewIds.{at}
+use Rattle.basics.specs.Limits.{places}
 use Rattle.places.specs.Soundness.{KeyWithin}
 use Rattle.places.proofs.soundness.all_within.Statement.{statement}
 use Rattle.places.proofs.soundness.all_within.Tie as tie
 
 abbrev Inv-loop : tie.InvT-loop
-Inv-loop ids values tops i₀ i = (i ≤ 64) × Below i (λ k. KeyWithin (at ids k) (at values k) (at tops k))
+Inv-loop ids values tops i₀ i = (i ≤ places) × Below i (λ k. KeyWithin (at ids k) (at values k) (at tops k))
 
 abbrev μ-loop : tie.MeasureT-loop
-μ-loop ids values tops i₀ i = 64 - i
+μ-loop ids values tops i₀ i = places - i
 
 loop-holds : tie.Need-loop-holds Inv-loop μ-loop
 loop-holds c = (omega arith, below-none _)

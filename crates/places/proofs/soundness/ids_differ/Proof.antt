@@ -5,14 +5,15 @@ use borrow.Author.Count.{below-none, below-more}
 use Rattle.basics.specs.Facts.Decides.{decides-no, decides-yes, failed, passed}
 use Rattle.basics.specs.Below.{Below}
 use Rattle.basics.specs.NewIds.{at, New}
+use Rattle.basics.specs.Limits.{places}
 use Rattle.places.proofs.soundness.ids_differ.Statement.{statement}
 use Rattle.places.proofs.soundness.ids_differ.Tie as tie
 
 abbrev Inv-loop : tie.InvT-loop
-Inv-loop ids i₀ i = (i ≤ 64) × Below i (New (at ids))
+Inv-loop ids i₀ i = (i ≤ places) × Below i (New (at ids))
 
 abbrev μ-loop : tie.MeasureT-loop
-μ-loop ids i₀ i = 64 - i
+μ-loop ids i₀ i = places - i
 
 loop-holds : tie.Need-loop-holds Inv-loop μ-loop
 loop-holds c = (omega arith, below-none _)

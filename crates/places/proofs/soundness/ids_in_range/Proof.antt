@@ -7,14 +7,15 @@ use native.Mathlib.Nat.{lt-irrefl, lt-of-lt-of-le}
 use Rattle.basics.specs.Facts.Decides.{decides-no, decides-yes}
 use Rattle.basics.specs.Below.{Below}
 use Rattle.basics.specs.NewIds.{at}
+use Rattle.basics.specs.Limits.{largest-id, places}
 use Rattle.places.proofs.soundness.ids_in_range.Statement.{statement}
 use Rattle.places.proofs.soundness.ids_in_range.Tie as tie
 
 abbrev Inv-loop : tie.InvT-loop
-Inv-loop ids i₀ i = (i ≤ 64) × Below i (λ k. at ids k ≤ 32767)
+Inv-loop ids i₀ i = (i ≤ places) × Below i (λ k. at ids k ≤ largest-id)
 
 abbrev μ-loop : tie.MeasureT-loop
-μ-loop ids i₀ i = 64 - i
+μ-loop ids i₀ i = places - i
 
 loop-holds : tie.Need-loop-holds Inv-loop μ-loop
 loop-holds c = (omega arith, below-none _)
@@ -26,7 +27,7 @@ element-copy-out-id : tie.Need-element-copy-out-id Inv-loop μ-loop
 element-copy-out-id c = omega arith
 
 returns : tie.Need-returns Inv-loop μ-loop
-returns c = decides-no (λ all. lt-irrefl 32767 (lt-of-lt-of-le (c .if1 .taken) (all _ (c .before .before .loop-test .taken))))
+returns c = decides-no (λ all. lt-irrefl largest-id (lt-of-lt-of-le (c .if1 .taken) (all _ (c .before .before .loop-test .taken))))
 
 add-i : tie.Need-add-i Inv-loop μ-loop
 add-i c = omega arith

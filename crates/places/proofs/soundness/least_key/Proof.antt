@@ -6,16 +6,17 @@ use borrow.Author.Needs.{needs}
 use mathlib.Core.Path.{_≡_, refl, subst}
 use mathlib.Core.Logic.{inl}
 use Rattle.basics.specs.NewIds.{at}
+use Rattle.basics.specs.Limits.{places}
 use Rattle.places.specs.Soundness.{IsLeast}
 use Rattle.places.specs.Facts.Soundness.{least-more}
 use Rattle.places.proofs.soundness.least_key.Statement.{statement}
 use Rattle.places.proofs.soundness.least_key.Tie as tie
 
 abbrev Inv-loop : tie.InvT-loop
-Inv-loop ids keys m₀ i₀ m i = (i ≤ 64) × IsLeast (at ids) (at keys) i m
+Inv-loop ids keys m₀ i₀ m i = (i ≤ places) × IsLeast (at ids) (at keys) i m
 
 abbrev μ-loop : tie.MeasureT-loop
-μ-loop ids keys m₀ i₀ m i = 64 - i
+μ-loop ids keys m₀ i₀ m i = places - i
 
 loop-holds : tie.Need-loop-holds Inv-loop μ-loop
 loop-holds c = (omega arith, record { bounded = omega arith; at-most = below-none _; reached = inl refl })
@@ -48,7 +49,7 @@ returns : tie.Need-returns Inv-loop μ-loop
 returns c =
     let loop = c .before .loop in
     let a = c .before .before .args in
-    let e : loop .i ≡ 64 = omega arith in
+    let e : loop .i ≡ places = omega arith in
     subst (λ (n : ℕ). IsLeast (at (a .ids .now)) (at (a .keys .now)) n (loop .m)) e (loop .inv .1)
 
 pub least-key-spec : {M : Type 1} → statement M

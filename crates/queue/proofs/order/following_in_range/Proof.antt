@@ -6,6 +6,7 @@ use native.Mathlib.Nat.{mod-lt}
 use native.Mathlib.Omega.{arith}
 use lib.ListN.{getD}
 use borrow.Author.Needs.{needs}
+use Rattle.basics.specs.Limits.{buckets, key-span, places}
 use Rattle.queue.specs.Layout.{Sound}
 use Rattle.queue.specs.Linking.{StandsAt, point-at}
 use Rattle.queue.specs.Layout.Buckets.{AtBucket}
@@ -16,9 +17,9 @@ use Rattle.queue.proofs.order.following_in_range.Tie as tie
 
 -- what is known at a bucket, in every sound queue with these keys and links
 pub record At (keys next : List ℕ) (key n bucket left : ℕ) : Type 0 where
-  below : bucket < 480
-  few : left ≤ 479
-  at : (q : Queue) → q .keys ≡ keys → q .next ≡ next → Sound q → StandsAt q key n → AtBucket q key (point-at q key n) 64 bucket left
+  below : bucket < buckets
+  few : left ≤ key-span
+  at : (q : Queue) → q .keys ≡ keys → q .next ≡ next → Sound q → StandsAt q key n → AtBucket q key (point-at q key n) places bucket left
 
 abbrev Inv-loop : tie.InvT-loop
 Inv-loop keys next key n on bucket₀ left₀ bucket left = At keys next key n bucket left
@@ -42,7 +43,7 @@ bucket-of-key-requires : tie.Need-bucket-of-key-requires Inv-loop μ-loop
 bucket-of-key-requires c κs = tt
 
 bucket-after-requires : tie.Need-bucket-after-requires Inv-loop μ-loop
-bucket-after-requires c κs = rw (c .bucket-of-key .ensures) (mod-lt (c .before .before .before .args .key) {m = 480} (omega arith))
+bucket-after-requires c κs = rw (c .bucket-of-key .ensures) (mod-lt (c .before .before .before .args .key) {m = buckets} (omega arith))
 
 loop-holds : tie.Need-loop-holds Inv-loop μ-loop
 loop-holds c =
@@ -51,7 +52,7 @@ loop-holds c =
     let on = left .before .node-at in
     let a = left .before .before .args in
     record {
-      below = rw (c .bucket-after .ensures) (mod-lt (own .result + 1) {m = 480} (omega arith));
+      below = rw (c .bucket-after .ensures) (mod-lt (own .result + 1) {m = buckets} (omega arith));
       few = omega arith;
       at = λ q is-keys is-next sound stands.
           after-own q sound (a .key) (a .n) stands (on .result) (c .bucket-after .result) (own .result)
@@ -77,7 +78,7 @@ returns-2 c q is-keys is-next sound stands =
     let loop = inside .before .loop in
     let a = inside .before .before .before .before .before .before .args in
     first-follows q sound (a .key) (a .n) stands (loop .bucket) (loop .left) (loop .inv .at q is-keys is-next sound stands) (inside .loop-test .taken)
-    (first .result) (there (64 + loop .bucket) (first .result) is-next (first .ensures)) (c .before .before .if2 .taken)
+    (first .result) (there (places + loop .bucket) (first .result) is-next (first .ensures)) (c .before .before .if2 .taken)
     (subst (λ (l : List ℕ). a .key < getD l (first .result) 0) (sym is-keys) (c .if3 .taken))
 
 returns-3 : tie.Need-returns-3 Inv-loop μ-loop
@@ -87,7 +88,7 @@ returns-3 c q is-keys is-next sound stands =
     let loop = inside .before .loop in
     let a = inside .before .before .before .before .before .before .args in
     come-round q sound (a .key) (a .n) stands (loop .bucket) (loop .left) (loop .inv .at q is-keys is-next sound stands) (inside .loop-test .taken)
-    (first .result) (there (64 + loop .bucket) (first .result) is-next (first .ensures)) (loop .inv .few) (c .before .before .if2 .taken)
+    (first .result) (there (places + loop .bucket) (first .result) is-next (first .ensures)) (loop .inv .few) (c .before .before .if2 .taken)
     (subst (λ (l : List ℕ). getD l (first .result) 0 ≤ a .key) (sym is-keys) (c .if3 .left))
 
 bucket-after-requires-2 : tie.Need-bucket-after-requires-2 Inv-loop μ-loop
@@ -106,11 +107,11 @@ loop-again c =
     let loop = inside .before .loop in
     let a = inside .before .before .before .before .before .before .args in
     record {
-      below = rw (c .bucket-after2 .ensures) (mod-lt (loop .bucket + 1) {m = 480} (omega arith));
+      below = rw (c .bucket-after2 .ensures) (mod-lt (loop .bucket + 1) {m = buckets} (omega arith));
       few = omega (arith, loop .inv .few);
       at = λ q is-keys is-next sound stands.
           one-bucket-on q sound (a .key) (a .n) stands (loop .bucket) (loop .left) (loop .inv .at q is-keys is-next sound stands)
-          (inside .loop-test .taken) (first .result) (there (64 + loop .bucket) (first .result) is-next (first .ensures)) (c .bucket-after2 .result) _
+          (inside .loop-test .taken) (first .result) (there (places + loop .bucket) (first .result) is-next (first .ensures)) (c .bucket-after2 .result) _
           (c .before .if2 .left) (c .bucket-after2 .ensures) refl;
     }
 

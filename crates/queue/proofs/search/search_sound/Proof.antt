@@ -4,6 +4,7 @@ use Prim.Native.Nat.{ℕ, _-_, _<_}
 use native.Mathlib.Omega.{arith}
 use borrow.Author.Needs.{needs}
 use Rattle.basics.specs.Decides.{Decides}
+use Rattle.basics.specs.Limits.{buckets}
 use Rattle.places.specs.Order.{Entry, Before, triple}
 use Rattle.queue.specs.Layout.{key-at, release-at, entry-at}
 use Rattle.queue.specs.Layout.Ranks.{rank-at, high}
@@ -37,7 +38,7 @@ search-holds c =
     at-first-bucket (start .args .t1) (start .pre .0) (start .args .from) (point start) (start .pre .1) _ (c .bucket-of-key .ensures)
 
 -- the bucket reached is one of the 480
-below : (c : tie.At-search Inv-loop μ-loop Inv-search μ-search) → c .search .bucket < 480
+below : (c : tie.At-search Inv-loop μ-loop Inv-search μ-search) → c .search .bucket < buckets
 below c =
     let start = c .before .before in
     bucket-below (start .args .t1) (start .pre .0) (start .args .from) (point start) (start .pre .1) _ _ _ (c .search .inv)

@@ -6,12 +6,13 @@ use Rattle.basics.specs.Facts.Decides.{decides-no, decides-yes, failed, passed}
 use Rattle.basics.specs.Below.{Between}
 use Rattle.basics.specs.Facts.Below.{between-more}
 use Rattle.basics.specs.NewIds.{at}
+use Rattle.basics.specs.Limits.{places}
 use Rattle.queue.specs.Layout.Soundness.{HeadRight}
 use Rattle.queue.proofs.soundness.heads_are_linked.Statement.{statement}
 use Rattle.queue.proofs.soundness.heads_are_linked.Tie as tie
 
 abbrev Inv-loop : tie.InvT-loop
-Inv-loop ids keys next prev x₀ x = (64 ≤ x) × Between 64 x (HeadRight (at ids) (at keys) (at next) (at prev))
+Inv-loop ids keys next prev x₀ x = (places ≤ x) × Between places x (HeadRight (at ids) (at keys) (at next) (at prev))
 
 abbrev μ-loop : tie.MeasureT-loop
 μ-loop ids keys next prev x₀ x = 544 - x

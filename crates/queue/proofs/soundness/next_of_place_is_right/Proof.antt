@@ -2,6 +2,7 @@
 use native.Mathlib.Nat.{lt-irrefl}
 use native.Mathlib.Omega.{arith}
 use Rattle.basics.specs.Facts.Decides.{decides-no, decides-yes, same-as, failed, passed}
+use Rattle.basics.specs.Limits.{places}
 use borrow.Author.Needs.{needs}
 use Rattle.queue.proofs.soundness.next_of_place_is_right.Statement.{statement}
 use Rattle.queue.proofs.soundness.next_of_place_is_right.Tie as tie
@@ -21,7 +22,7 @@ returns-2 c =
     same-as (λ later. (right, λ _. later)) (λ w. w .1 (c .before .if2 .taken)) (c .comes-later .ensures)
 
 returns-3 : tie.Need-returns-3
-returns-3 c = decides-yes (passed (c .before .before .next-is-right .ensures) (c .before .if1 .left), λ below. absurd (lt-irrefl 64 (omega (arith, below, c .if2 .left))))
+returns-3 c = decides-yes (passed (c .before .before .next-is-right .ensures) (c .before .if1 .left), λ below. absurd (lt-irrefl places (omega (arith, below, c .if2 .left))))
 
 pub next-of-place-is-right-spec : {M : Type 1} → statement M
 next-of-place-is-right-spec = tie.close (tie.spec next-is-right-requires returns comes-later-requires returns-2 returns-3)

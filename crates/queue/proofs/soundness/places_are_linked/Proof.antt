@@ -7,6 +7,7 @@ use Rattle.places.specs.Entries.{row-of}
 use Rattle.basics.specs.Below.{Between}
 use Rattle.basics.specs.Facts.Below.{between-more}
 use Rattle.basics.specs.NewIds.{at}
+use Rattle.basics.specs.Limits.{places}
 use Rattle.queue.specs.Layout.Soundness.{PlaceRight}
 use Rattle.queue.proofs.soundness.places_are_linked.Statement.{statement}
 use Rattle.queue.proofs.soundness.places_are_linked.Tie as tie
@@ -15,7 +16,7 @@ abbrev Inv-loop : tie.InvT-loop
 Inv-loop ids keys releases next prev x₀ x = (0 ≤ x) × Between 0 x (PlaceRight (row-of ids keys releases) (at next) (at prev))
 
 abbrev μ-loop : tie.MeasureT-loop
-μ-loop ids keys releases next prev x₀ x = 64 - x
+μ-loop ids keys releases next prev x₀ x = places - x
 
 loop-holds : tie.Need-loop-holds Inv-loop μ-loop
 loop-holds c = (omega arith, λ x low high. absurd (lt-irrefl x (omega (arith, low, high))))

@@ -5,7 +5,7 @@ use mathlib.Core.List.{List, _∷_, List·Mem}
 use Prim.Native.Nat.{ℕ, _+_, _≤_, _<_}
 use lib.ListN.{length, take, drop, getD}
 use Rattle.command.specs.Text.{IsNumeral, IsFields}
-use Rattle.command.specs.Commands.{Says}
+use Rattle.command.specs.Commands.{longest-line, number-limit, Says}
 use Rattle.command.specs.declared.Command.{Command}
 use Rattle.command.specs.declared.reading.Fields.{Fields}
 use Rattle.command.specs.declared.numbers.Number.{Number}
@@ -29,7 +29,7 @@ pub record IsDigitAt (bytes : List ℕ) (i d : ℕ) : Type 0 where
 pub record IsNumberAtStart (bytes : List ℕ) (v n : ℕ) : Type 0 where
   pub within : n ≤ length bytes
   pub numeral : IsNumeral (take n bytes) v
-  pub fits : v < 4_294_967_296
+  pub fits : v < number-limit
   pub ends : Ends bytes n
 
 abbrev pub IsReadNumber : List ℕ → Number → Type 0
@@ -42,7 +42,7 @@ IsReadField line at (Value v n) = (getD line at 0 ≡ 44) × IsReadNumber (drop 
 IsReadField line at Bad = getD line at 0 ≡ 44 → IsReadNumber (drop (at + 1) line) Bad
 
 abbrev pub Fit : List ℕ → Type 0
-Fit ns = (n : ℕ) → List·Mem n ns → n < 4_294_967_296
+Fit ns = (n : ℕ) → List·Mem n ns → n < number-limit
 
 -- The numbers, and no others, are those of the fields after the line's first byte.
 pub record AreNumbers (line ns : List ℕ) : Type 0 where
@@ -57,7 +57,7 @@ pub record IsReadFields (line : List ℕ) (r : Fields) : Type 0 where
 
 -- A line of 1 to 63 bytes, with its letter and what is read of its fields.
 pub record IsSplit (line : List ℕ) (letter : ℕ) (r : Fields) : Type 0 where
-  pub short : length line ≤ 63
+  pub short : length line ≤ longest-line
   pub begins : line ≡ letter ∷ drop 1 line
   pub read : IsReadFields line r
 

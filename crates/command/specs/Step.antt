@@ -1,19 +1,14 @@
 -- One line of the command program: what it says, what the planner answers, and what is written.
 use mathlib.Core.Path.{_≡_}
-use mathlib.Core.List.{List, [], _∷_}
+use mathlib.Core.List.{List}
 use Prim.Native.Nat.{ℕ, _+_, _≤_}
-use lib.ListN.{take}
 use Rattle.planner.specs.declared.Planner.{Planner}
 use Rattle.command.specs.Commands.{Says}
 use Rattle.command.specs.Answers.{IsAnswered}
-use Rattle.command.specs.Puts.{room, IsPut, AreLines}
+use Rattle.command.specs.Puts.{room, IsPut, AreLines, lines-of}
 use Rattle.command.specs.declared.Command.{Command}
 use Rattle.command.specs.declared.answers.Answered.{Answered}
 use Rattle.command.specs.declared.step.Step.{Step}
-
--- Annex 11.20: the lines of an answer: one.
-abbrev pub lines-of : Answered → List (ℕ × List ℕ)
-lines-of r = (r .letter, take (r .numbers .count) (r .numbers .values)) ∷ []
 
 -- Annex 11.11: one line: what it says, what the planner answers to it, the planner that this leaves, and the bytes of the answer with its ends.
 pub record IsAnswer (p : Planner) (number : ℕ) (line bytes : List ℕ) (after : Planner) : Type 0 where
@@ -22,7 +17,7 @@ pub record IsAnswer (p : Planner) (number : ℕ) (line bytes : List ℕ) (after 
   pub answered : Answered
   pub by-contract : IsAnswered p number command answered
   pub planner : after ≡ answered .planner
-  pub written : AreLines (lines-of answered) bytes
+  pub written : AreLines (lines-of (answered .lines)) bytes
 
 -- Annex 11.21: the answer to the line is written from `at` on, in at most 1,430 bytes; all other places stay.
 pub record IsStep (p : Planner) (number : ℕ) (line before after : List ℕ) (at : ℕ) (r : Step) : Type 0 where

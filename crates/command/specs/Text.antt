@@ -2,6 +2,7 @@
 use mathlib.Core.Path.{_≡_}
 use mathlib.Core.List.{List, [], _∷_, _++_}
 use Prim.Native.Nat.{ℕ, _+_, _*_, _≤_, _<_}
+use Prim.Native.Char.{code}
 
 -- Annex 11.4: a number in text: one digit, or a number that is not 0 and one digit more, so that no leading zero stands. 48 is the byte of the digit 0.
 pub data IsNumeral : List ℕ → ℕ → Type 0 where
@@ -18,3 +19,23 @@ pub record IsWritten (letter : ℕ) (ns line : List ℕ) : Type 0 where
   pub fields : List ℕ
   pub begins : line ≡ letter ∷ fields
   pub numbers : IsFields fields ns
+
+-- Annex 11.6: the byte of O, for open.
+abbrev pub letter-O : ℕ
+letter-O = code "O"
+
+-- Annex 11.6: the byte of A, for add.
+abbrev pub letter-A : ℕ
+letter-A = code "A"
+
+-- Annex 11.6: the byte of D, for remove.
+abbrev pub letter-D : ℕ
+letter-D = code "D"
+
+-- Annex 11.6: the byte of R, for round.
+abbrev pub letter-R : ℕ
+letter-R = code "R"
+
+-- Annex 11.20: the byte of E, for the answer to a malformed line.
+abbrev pub letter-E : ℕ
+letter-E = code "E"

@@ -1,50 +1,51 @@
-// What the planner answers to a command, as a letter and numbers.
+// What the planner answers to a command, as lines of a letter and numbers.
 ghost use mathlib.Core.Path.{_≡_};
 ghost use mathlib.Core.List.{[], _∷_};
 ghost use Prim.Native.Nat.{_≤_};
 ghost use lib.ListN.{take};
+ghost use Rattle.basics.specs.Limits.{most-slots};
 ghost use Rattle.planner.specs.Open.{setting};
 ghost use Rattle.planner.specs.AddRemove.{offer};
+ghost use Rattle.command.specs.Text.{letter-R};
 ghost use Rattle.command.specs.Answers.{Gives, IsOpenGiven, IsAddGiven, IsRemoveGiven, IsRoundGiven, IsAnswered};
 use super::Command;
-use super::print::Numbers;
+use super::print::Lines;
 use planner::Planner;
 use planner::Rounded;
 
-// The planner after a command, and the line to be written.
+// The planner after a command, and the lines to be written.
 pub struct Answered {
     pub planner: Planner,
-    pub letter: u8,
-    pub numbers: Numbers,
+    pub lines: Lines,
 }
 
-// A letter and one number.
+// One line of a letter and a number.
 fn one(planner: Planner, letter: u8, value: u64) -> Answered
-    ensures { λ r. ⌜ Gives planner letter (value ∷ []) r ⌝ }
+    ensures { λ r. ⌜ Gives planner ((letter, value ∷ []) ∷ []) r ⌝ }
 {
     let mut values = [0u64; 68];
     values[0] = value;
-    let numbers = Numbers { values, count: 1 };
-    Answered {
-        planner,
+    let lines = Lines {
         letter,
-        numbers,
-    }
+        values,
+        count: 1,
+    };
+    Answered { planner, lines }
 }
 
-// A letter and two numbers.
+// One line of a letter and two numbers.
 fn two(planner: Planner, letter: u8, first: u64, second: u64) -> Answered
-    ensures { λ r. ⌜ Gives planner letter (first ∷ second ∷ []) r ⌝ }
+    ensures { λ r. ⌜ Gives planner ((letter, first ∷ second ∷ []) ∷ []) r ⌝ }
 {
     let mut values = [0u64; 68];
     values[0] = first;
     values[1] = second;
-    let numbers = Numbers { values, count: 2 };
-    Answered {
-        planner,
+    let lines = Lines {
         letter,
-        numbers,
-    }
+        values,
+        count: 2,
+    };
+    Answered { planner, lines }
 }
 
 fn wide(id: u16) -> u64
@@ -55,8 +56,8 @@ fn wide(id: u16) -> u64
 
 // A held round: 0, its start, n, and the ids.
 fn held(done: Rounded, ids: [u16; 64]) -> Answered
-    requires { ⌜ done .n ≤ 64 ⌝ }
-    ensures { λ r. ⌜ Gives (done .planner) 82 (0 ∷ done .start ∷ done .n ∷ take (done .n) ids) r ⌝ }
+    requires { ⌜ done .n ≤ most-slots ⌝ }
+    ensures { λ r. ⌜ Gives (done .planner) ((letter-R, 0 ∷ done .start ∷ done .n ∷ take (done .n) ids) ∷ []) r ⌝ }
 {
     let mut values = [0u64; 68];
     values[1] = done.start as u64;
@@ -68,15 +69,12 @@ fn held(done: Rounded, ids: [u16; 64]) -> Answered
         values[3 + k] = wide(ids[k]);
         k += 1;
     }
-    let numbers = Numbers {
+    let lines = Lines {
+        letter: b'R',
         values,
         count: 3 + n,
     };
-    Answered {
-        planner,
-        letter: b'R',
-        numbers,
-    }
+    Answered { planner, lines }
 }
 
 fn opened(slots: u32, frame: u32, gap: u32, last: u32) -> Answered

@@ -2,15 +2,16 @@
 ghost use mathlib.Core.Path.{_≡_};
 ghost use mathlib.Core.List.{[], _∷_};
 ghost use Prim.Native.Nat.{_+_, _≤_, _<_};
-ghost use lib.ListN.{length, take};
+ghost use lib.ListN.{length};
 ghost use Rattle.command.specs.Text.{IsNumeral, IsFields};
-ghost use Rattle.command.specs.Puts.{IsPut, IsLine, room};
+ghost use Rattle.command.specs.Puts.{IsPut, IsLine, AreLines, lines-of, AreFew, line-room, room};
 
 // The most bytes that the answer to a line has, its ends counted.
 pub const ROOM: usize = 1430;
 
-// The numbers of a line: the first `count` values.
-pub struct Numbers {
+// The lines of an answer: one, of a letter and the first `count` values.
+pub struct Lines {
+    pub letter: u8,
     pub values: [u64; 68],
     pub count: usize,
 }
@@ -46,17 +47,27 @@ pub fn put_field_in_range(out: &mut [u8], at: usize, value: u64) -> usize
 }
 
 // A line of a letter and numbers, and its end.
-pub fn put_line_in_range(out: &mut [u8], at: usize, letter: u8, numbers: Numbers) -> usize
-    requires { ⌜ (numbers .count ≤ 68) × (at + room ≤ length (now out)) ⌝ }
-    ensures { λ r. ⌜ IsPut (IsLine letter (take (numbers .count) (numbers .values))) (now (out .entry)) (now (out .exit)) at r ⌝ }
-    ensures { λ r. ⌜ r ≤ at + room ⌝ }
+fn put_line_in_range(out: &mut [u8], at: usize, letter: u8, numbers: &[u64]) -> usize
+    requires { ⌜ at + line-room (length (now numbers)) ≤ length (now out) ⌝ }
+    ensures { λ r. ⌜ IsPut (IsLine letter (now (numbers .entry))) (now (out .entry)) (now (out .exit)) at r ⌝ }
+    ensures { λ r. ⌜ r ≤ at + line-room (length (now (numbers .entry))) ⌝ }
 {
-    let values = numbers.values;
     let mut end = put_byte_in_range(out, at, letter);
     let mut i: usize = 0;
-    while i < numbers.count {
-        end = put_field_in_range(out, end, values[i]);
+    while i < numbers.len() {
+        end = put_field_in_range(out, end, numbers[i]);
         i += 1;
     }
     put_byte_in_range(out, end, b'\n')
+}
+
+// The lines of an answer, one after the other.
+pub fn put_lines_in_range(out: &mut [u8], at: usize, lines: Lines) -> usize
+    requires { ⌜ AreFew lines × (at + room ≤ length (now out)) ⌝ }
+    ensures { λ r. ⌜ IsPut (AreLines (lines-of lines)) (now (out .entry)) (now (out .exit)) at r ⌝ }
+    ensures { λ r. ⌜ r ≤ at + room ⌝ }
+{
+    let values = lines.values;
+    let count = lines.count;
+    put_line_in_range(out, at, lines.letter, &values[..count])
 }

@@ -1,7 +1,7 @@
 // What a line says: a letter, and fields of a comma and a number each.
 ghost use Prim.Native.Nat.{_≤_, _<_};
 ghost use lib.ListN.{length};
-ghost use Rattle.command.specs.Commands.{Says};
+ghost use Rattle.command.specs.Commands.{longest-line, Says};
 ghost use Rattle.command.specs.Reads.{IsReadField, IsReadFields, IsCommandOf};
 use crate::Command;
 use crate::numbers::Number;
@@ -27,7 +27,7 @@ fn read_field(line: &[u8], at: usize) -> Number
 }
 
 fn read_fields(line: &[u8]) -> Fields
-    requires { ⌜ (1 ≤ length (now line)) × (length (now line) ≤ 63) ⌝ }
+    requires { ⌜ (1 ≤ length (now line)) × (length (now line) ≤ longest-line) ⌝ }
     ensures { λ r. ⌜ IsReadFields (now (line .entry)) r ⌝ }
 {
     let mut values = [0u32; 4];

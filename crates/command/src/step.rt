@@ -4,7 +4,7 @@ ghost use lib.ListN.{length};
 ghost use Rattle.command.specs.Step.{IsStep};
 ghost use Rattle.command.specs.Puts.{room};
 use super::answers::answer;
-use super::print::put_line_in_range;
+use super::print::put_lines_in_range;
 use super::reading::parse;
 use planner::Planner;
 
@@ -21,8 +21,8 @@ pub fn step_in_range(planner: Planner, number: u64, line: &[u8], out: &mut [u8],
 {
     let command = parse(line);
     let answered = answer(planner, number, command);
-    let numbers = answered.numbers;
-    let end = put_line_in_range(out, at, answered.letter, numbers);
+    let lines = answered.lines;
+    let end = put_lines_in_range(out, at, lines);
     let after = answered.planner;
     Step {
         planner: after,

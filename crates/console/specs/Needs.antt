@@ -7,33 +7,37 @@ use Prim.Native.Nat.{ℕ, _+_, _-_, _≤_, _<_, min}
 use lib.ListN.{length, take, drop}
 use Rattle.command.specs.Puts.{room}
 use Rattle.command.specs.Script.{IsBeginning}
-use Rattle.console.specs.Transcript.{HasNoEnd, ToldAll}
+use Rattle.console.specs.Transcript.{most-kept, HasNoEnd, ToldAll}
 use Rattle.console.specs.declared.Session.{Session}
 use Rattle.console.specs.declared.Turn.{Turn}
 use Rattle.console.specs.declared.system.Delivery.{Delivery}
-use Rattle.console.specs.Session.{at-hand, HasTold, InBounds, delivered}
+use Rattle.console.specs.Session.{buffer-places, at-hand, HasTold, InBounds, delivered}
 
 -- Nothing has been read and nothing written.
 pub record IsBegun (s : Session) : Type 0 where
   pub beginning : IsBeginning (s .reached)
   pub have : s .have ≡ 0
 
+-- The most lines that a run numbers; 64 bits hold twice as many numbers.
+abbrev pub most-lines : ℕ
+most-lines = 9_223_372_036_854_775_808
+
 -- What answering relies on: an empty output, and a line number that cannot wrap.
 pub record CanAnswer (s : Session) (input out : List ℕ) : Type 0 where
   pub bounds : InBounds s
   pub empty : s .reached .end ≡ 0
-  pub number : s .reached .number ≤ 9_223_372_036_854_775_808
-  pub places : length input ≡ 65536
-  pub room : length out ≡ 65536
+  pub number : s .reached .number ≤ most-lines
+  pub places : length input ≡ buffer-places
+  pub room : length out ≡ buffer-places
 
 -- The first bytes of the output are the answers to the lines that are no longer at hand. No whole line is left, or the output is too full for
 -- the next answer.
 pub record HasAnswered (s : Session) (input out : List ℕ) (r : Session) : Type 0 where
   pub told : (read written : List ℕ) → HasTold read written s input → HasTold read (written ++ take (r .reached .end) out) r input
-  pub all-or-full : HasNoEnd (at-hand r input) ⊎ (65536 < r .reached .end + room)
+  pub all-or-full : HasNoEnd (at-hand r input) ⊎ (buffer-places < r .reached .end + room)
   pub bounds : InBounds r
-  pub end : r .reached .end ≤ 65536
-  pub number : r .reached .number ≤ s .reached .number + 65536
+  pub end : r .reached .end ≤ buffer-places
+  pub number : r .reached .number ≤ s .reached .number + buffer-places
 
 -- Only what no line end follows is a last line.
 pub record CanAnswerLast (s : Session) (input out : List ℕ) : Type 0 where
@@ -43,7 +47,7 @@ pub record CanAnswerLast (s : Session) (input out : List ℕ) : Type 0 where
 -- At the end of the input: what is at hand is the last line, and the first bytes of the output are its answer.
 pub record HasAnsweredLast (s : Session) (input out : List ℕ) (r : Session) : Type 0 where
   pub told : (read written : List ℕ) → HasTold read written s input → ToldAll read (written ++ take (r .reached .end) out)
-  pub end : r .reached .end ≤ 65536
+  pub end : r .reached .end ≤ buffer-places
 
 -- The output is empty again, and nothing else has changed.
 abbrev pub handed-over : Session → Session
@@ -51,7 +55,7 @@ handed-over s = record { reached = record { planner = s .reached .planner; numbe
 
 -- The bytes from `from` on stand at the front, as many as there are before `have`, at most 64.
 pub record IsMoved (from have : ℕ) (before after : List ℕ) (r : ℕ) : Type 0 where
-  pub count : r ≡ min 64 (have - from)
+  pub count : r ≡ min most-kept (have - from)
   pub content : after ≡ take r (drop from before) ++ drop r before
 
 -- What is at hand stands for what was, with room behind it.
@@ -59,7 +63,7 @@ pub record IsKept (s : Session) (before after : List ℕ) (r : Session) : Type 0
   pub told : (read written : List ℕ) → HasTold read written s before → HasTold read written r after
   pub no-end : HasNoEnd (at-hand r after)
   pub from : r .reached .from ≡ 0
-  pub have : r .have ≤ 64
+  pub have : r .have ≤ most-kept
   pub end : r .reached .end ≡ s .reached .end
   pub number : r .reached .number ≡ s .reached .number
 

@@ -9,6 +9,10 @@ use Rattle.console.specs.Transcript.{HasNoEnd, Told}
 use Rattle.console.specs.declared.Session.{Session}
 use Rattle.console.specs.declared.Turn.{Turn}
 
+-- Annex 12.1: the places of the buffer for the input, and of that for the output.
+abbrev pub buffer-places : ℕ
+buffer-places = 65536
+
 -- Annex 11.22: the bytes at hand that are not answered yet.
 abbrev pub at-hand : Session → List ℕ → List ℕ
 at-hand s input = drop (s .reached .from) (take (s .have) input)
@@ -20,13 +24,13 @@ HasTold read written s input = Told read written (s .reached .planner) (s .reach
 -- Annex 12.1: places lie within the input at hand.
 pub record InBounds (s : Session) : Type 0 where
   pub from : s .reached .from ≤ s .have
-  pub have : s .have ≤ 65536
+  pub have : s .have ≤ buffer-places
 
 -- Annex 11.23: a line may be cut only where no whole line is left.
 pub record CanKeep (s : Session) (input : List ℕ) : Type 0 where
   pub bounds : InBounds s
   pub no-end : HasNoEnd (at-hand s input)
-  pub places : length input ≡ 65536
+  pub places : length input ≡ buffer-places
 
 -- Annex 11.23: more may be read only where every whole line read so far is answered, and every answer handed over.
 pub record CanRefill (s : Session) (input : List ℕ) : Type 0 where
@@ -43,5 +47,5 @@ pub record IsTurned (s : Session) (before after out : List ℕ) (t : Turn) : Typ
   pub told : (read written : List ℕ) → HasTold read written s before → HasTold (read ++ delivered t after) (written ++ take (t .wrote) out) (t .session) after
   pub bounds : InBounds (t .session)
   pub empty : t .session .reached .end ≡ 0
-  pub number : t .session .reached .number ≤ s .reached .number + 65536
+  pub number : t .session .reached .number ≤ s .reached .number + buffer-places
   pub at-end : t .ended ≡ true → HasNoEnd (at-hand (t .session) after)

@@ -7,6 +7,7 @@ use lib.ListN.{length, take}
 use Rattle.planner.specs.Open.{zeros, IsFresh}
 use Rattle.planner.specs.declared.Planner.{Planner}
 use Rattle.command.specs.Step.{IsAnswer}
+use Rattle.command.specs.Commands.{longest-line}
 use Rattle.command.specs.Lines.{NoEnd}
 
 -- Annex 11.1: none of the bytes ends a line.
@@ -20,13 +21,17 @@ pub data Transcript (p : Planner) : List ℕ → List ℕ → Planner → ℕ �
   next : {lines answers : List ℕ} {q : Planner} {n : ℕ} → Transcript p lines answers q n → (line answer : List ℕ) (after : Planner) → HasNoEnd line
       → IsAnswer q (n + 1) line answer after → Transcript p (lines ++ (line ++ (10 ∷ []))) (answers ++ answer) after (n + 1)
 
+-- Annex 11.8: how many bytes of a line are kept at most: 64, one more than the longest command's line has.
+abbrev pub most-kept : ℕ
+most-kept = longest-line + 1
+
 -- Annex 11.8: of bytes that begin with 64 or more of one line, the first 64 of these are kept: a line of more than 63 bytes is malformed whatever it says.
 pub record IsCut (kept rest : List ℕ) : Type 0 where
   pub line : List ℕ
   pub more : List ℕ
-  pub long : 64 ≤ length line
+  pub long : most-kept ≤ length line
   pub no-end : HasNoEnd line
-  pub kept-is : kept ≡ take 64 line ++ more
+  pub kept-is : kept ≡ take most-kept line ++ more
   pub rest-is : rest ≡ line ++ more
 
 -- Annex 11.10: all bytes read are whole lines and a rest. The lines have been answered, from the closed planner on; p, after n lines, is what they left.

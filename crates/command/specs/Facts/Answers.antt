@@ -6,6 +6,7 @@ use native.Mathlib.Decide.{ℕ-discrete}
 use native.Mathlib.Numerals.{add-one}
 use native.Mathlib.Omega.{arith}
 use lib.ListN.{length, take, getD, set, length-set, length-map, length-take}
+use Rattle.basics.specs.Limits.{most-slots}
 use Rattle.rules.specs.Streams.{Stream}
 use Rattle.rules.specs.Slots.{slots}
 use Rattle.planner.specs.Content.{content, slots-of, streams-in}
@@ -13,6 +14,7 @@ use Rattle.planner.specs.Round.{ids-at, IsRound}
 use Rattle.planner.specs.Facts.Calls.{held-is-sound}
 use Rattle.planner.specs.declared.Planner.{Planner}
 use Rattle.planner.specs.declared.Rounded.{Rounded}
+use Rattle.command.specs.Puts.{most-numbers, AreFew}
 use Rattle.command.specs.Answers.{IsAnswered}
 use Rattle.command.specs.declared.Command.{Command}
 use Rattle.command.specs.declared.Command.the-variants.{Open, Add, Remove, Round, Malformed}
@@ -22,14 +24,14 @@ use lib.Seq.{paste, paste-zero, paste-suc, take-paste}
 -- the first k ids stand behind the first three values, and all else is as it was
 pub record Copied (ids old : List ℕ) (k : ℕ) (values : List ℕ) : Type 0 where
   pub content : values ≡ paste old 3 ids k
-  pub long : length values ≡ 68
+  pub long : length values ≡ most-numbers
 
 -- before the first id is copied the 68 values are as they were
-pub none-copied : {ids old : List ℕ} → length old ≡ 68 → Copied ids old 0 old
+pub none-copied : {ids old : List ℕ} → length old ≡ most-numbers → Copied ids old 0 old
 none-copied {ids} {old} long = record { content = paste-zero old 3 ids; long = long }
 
 -- with id k written at place 3 + k, one id more stands behind the first three values
-pub one-more-copied : {ids old : List ℕ} {k : ℕ} {values : List ℕ} {v : ℕ} → length ids ≡ 64 → length old ≡ 68 → k < 64
+pub one-more-copied : {ids old : List ℕ} {k : ℕ} {values : List ℕ} {v : ℕ} → length ids ≡ most-slots → length old ≡ most-numbers → k < most-slots
     → Copied ids old k values → v ≡ getD ids k 0 → Copied ids old (k + 1) (set values (3 + k) v)
 one-more-copied {ids} {old} {k} {values} {v} sixty-four sixty-eight below copied same =
     record {
@@ -40,14 +42,14 @@ one-more-copied {ids} {old} {k} {values} {v} sixty-four sixty-eight below copied
     }
 
 -- when all n are copied, the first 3 + n values are the three that stood there and the n ids
-pub all-copied : {ids old : List ℕ} {n k : ℕ} {values : List ℕ} → length ids ≡ 64 → length old ≡ 68 → n ≤ 64 → k ≡ n → Copied ids old k values
-    → take (3 + n) values ≡ take 3 old ++ take n ids
+pub all-copied : {ids old : List ℕ} {n k : ℕ} {values : List ℕ} → length ids ≡ most-slots → length old ≡ most-numbers → n ≤ most-slots
+    → k ≡ n → Copied ids old k values → take (3 + n) values ≡ take 3 old ++ take n ids
 all-copied {ids} {old} {n} sixty-four sixty-eight few ended copied =
     ap (take (3 + n)) (copied .content ∙ ap (paste old 3 ids) ended)
     ∙ take-paste old 3 ids n (omega (arith, sixty-eight)) (omega (arith, sixty-four))
 
 -- a held round has at most 64 ids
-pub few-ids : {p : Planner} {before after : List ℕ} {r : Rounded} → IsRound p before after r → r .answer ≡ 0 → r .n ≤ 64
+pub few-ids : {p : Planner} {before after : List ℕ} {r : Rounded} → IsRound p before after r → r .answer ≡ 0 → r .n ≤ most-slots
 unfolding slots
 few-ids {p} {before} {r = r} is zero =
     let none = sym (is .answer) ∙ zero in
@@ -58,14 +60,14 @@ few-ids {p} {before} {r = r} is zero =
     let few : length (ids-at (content p) s) ≤ slots-of (content p) = rw (length-map chosen (λ (x : Stream). x .number), length-take) (omega arith) in
     omega (arith, ids, few, sound .content-sound .in-range .setting .slots)
 
--- an answer has at most 68 numbers
-pub answered-few : (p : Planner) (number : ℕ) (command : Command) (r : Answered) → IsAnswered p number command r → r .numbers .count ≤ 68
+-- an answer's lines are few enough for its room
+pub answered-few : (p : Planner) (number : ℕ) (command : Command) (r : Answered) → IsAnswered p number command r → AreFew (r .lines)
 answered-few p number (Open b f g t) r is = is .given .few
 answered-few p number (Add id start period deadline) r is = is .given .few
 answered-few p number (Remove id) r is = is .given .few
 answered-few p number Round r is = go (ℕ-discrete (is .done .answer) 0)
   where
-    go : Dec (is .done .answer ≡ 0) → r .numbers .count ≤ 68
+    go : Dec (is .done .answer ≡ 0) → AreFew (r .lines)
     go (yes zero) = is .held zero .few
     go (no some) = is .refused some .few
 answered-few p number Malformed r is = is .few

@@ -7,8 +7,8 @@ use native.Mathlib.Nat.{lt-irrefl}
 use native.Mathlib.Omega.{arith}
 use lib.ListN.{length, take, drop, getD}
 use lib.Seq.{length-take-le}
-use Rattle.command.specs.Text.{IsFields}
-use Rattle.command.specs.Commands.{IsGood, IsMalformed}
+use Rattle.command.specs.Text.{IsFields, letter-O, letter-A, letter-D, letter-R}
+use Rattle.command.specs.Commands.{longest-line, IsGood, IsMalformed}
 use Rattle.command.specs.Reads.{IsSplit}
 use Rattle.command.specs.declared.reading.Fields.{Fields}
 
@@ -24,10 +24,10 @@ first-four (a ∷ b ∷ c ∷ d ∷ ns) long = refl
 
 -- How many numbers a letter takes.
 pub data Takes : ℕ → ℕ → Type 0 where
-  opening : Takes 79 4
-  adding : Takes 65 4
-  removing : Takes 68 1
-  holding : Takes 82 0
+  opening : Takes letter-O 4
+  adding : Takes letter-A 4
+  removing : Takes letter-D 1
+  holding : Takes letter-R 0
 
 takes-few : {letter n : ℕ} → Takes letter n → n ≤ 4
 takes-few opening = omega arith
@@ -35,8 +35,8 @@ takes-few adding = omega arith
 takes-few removing = omega arith
 takes-few holding = omega arith
 
-takes-other : {letter n : ℕ} → (letter ≡ 79 → n ≡ 4 → ⊥) → (letter ≡ 65 → n ≡ 4 → ⊥) → (letter ≡ 68 → n ≡ 1 → ⊥)
-    → (letter ≡ 82 → n ≡ 0 → ⊥) → Takes letter n → ⊥
+takes-other : {letter n : ℕ} → (letter ≡ letter-O → n ≡ 4 → ⊥) → (letter ≡ letter-A → n ≡ 4 → ⊥) → (letter ≡ letter-D → n ≡ 1 → ⊥)
+    → (letter ≡ letter-R → n ≡ 0 → ⊥) → Takes letter n → ⊥
 takes-other a b c d opening = a refl refl
 takes-other a b c d adding = b refl refl
 takes-other a b c d removing = c refl refl
@@ -46,14 +46,14 @@ takes-other a b c d holding = d refl refl
 malformed : {line : List ℕ} → ((letter : ℕ) (ns : List ℕ) → Takes letter (length ns) → IsGood letter ns line → ⊥) → IsMalformed line
 malformed refused =
     record {
-      no-open = λ b f g t good. refused 79 (b ∷ f ∷ g ∷ t ∷ []) opening good;
-      no-add = λ id s p d good. refused 65 (id ∷ s ∷ p ∷ d ∷ []) adding good;
-      no-remove = λ id good. refused 68 (id ∷ []) removing good;
-      no-round = λ good. refused 82 [] holding good;
+      no-open = λ b f g t good. refused letter-O (b ∷ f ∷ g ∷ t ∷ []) opening good;
+      no-add = λ id s p d good. refused letter-A (id ∷ s ∷ p ∷ d ∷ []) adding good;
+      no-remove = λ id good. refused letter-D (id ∷ []) removing good;
+      no-round = λ good. refused letter-R [] holding good;
     }
 
 -- a line of more than 63 bytes is malformed
-pub too-long : (line : List ℕ) → 63 < length line → IsMalformed line
+pub too-long : (line : List ℕ) → longest-line < length line → IsMalformed line
 too-long line long = malformed (λ letter ns takes good. lt-irrefl 0 (omega (arith, good .short)))
 
 -- the empty line is malformed
@@ -95,10 +95,10 @@ module _ {line : List ℕ} {letter : ℕ} {r : Fields} (split : IsSplit line let
   -- good fields, but not as many as the letter takes
   pub other-line :
       r .good ≡ true
-      → (letter ≡ 79 → r .count ≡ 4 → ⊥)
-      → (letter ≡ 65 → r .count ≡ 4 → ⊥)
-      → (letter ≡ 68 → r .count ≡ 1 → ⊥)
-      → (letter ≡ 82 → r .count ≡ 0 → ⊥)
+      → (letter ≡ letter-O → r .count ≡ 4 → ⊥)
+      → (letter ≡ letter-A → r .count ≡ 4 → ⊥)
+      → (letter ≡ letter-D → r .count ≡ 1 → ⊥)
+      → (letter ≡ letter-R → r .count ≡ 0 → ⊥)
       → IsMalformed line
   other-line good a b c d = malformed refused
     where

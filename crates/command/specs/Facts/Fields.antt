@@ -9,6 +9,7 @@ use native.Mathlib.Omega.{arith}
 use lib.ListN.{length, take, drop, getD, length-append, length-drop, take-append-drop}
 use lib.Seq.{take-append-seam, drop-append-seam, drop-cons, drop-drop, getD-append-seam}
 use Rattle.command.specs.Text.{IsNumeral, IsFields, none, more}
+use Rattle.command.specs.Commands.{number-limit}
 use Rattle.command.specs.Facts.Text.{numeral-unique}
 use Rattle.command.specs.Facts.Numbers.{ends-last}
 use Rattle.command.specs.Reads.{Ends, at-end, before-other, IsNumberAtStart, IsReadNumber, IsReadField, Fit}
@@ -50,7 +51,7 @@ ends-before bytes (more {bytes = other} {rest = rest} numeral further) =
     before-other (omega (arith, length-append bytes (44 ∷ (other ++ rest)))) (λ digit. lt-irrefl 0 (omega (arith, comma, digit .0)))
 
 -- the first field's number is the one at the start of the bytes after its comma
-first-at-start : (bytes : List ℕ) {rest ns : List ℕ} {v : ℕ} → IsNumeral bytes v → IsFields rest ns → v < 4_294_967_296
+first-at-start : (bytes : List ℕ) {rest ns : List ℕ} {v : ℕ} → IsNumeral bytes v → IsFields rest ns → v < number-limit
     → IsNumberAtStart (bytes ++ rest) v (length bytes)
 first-at-start bytes {rest = rest} numeral further fits =
     record {
@@ -119,7 +120,7 @@ module _ (line : List ℕ) (at : ℕ) (inside : at < length line) where
       go (inl (end, _)) = not-at-end line at inside end
       go (inr f) =
           let here : drop (at + 1) line ≡ f .numeral-bytes ++ f .rest = tail-eq-of-cons-eq (sym at-byte ∙ f .split) in
-          let fits : f .number < 4_294_967_296 = fit (f .number) (rw (f .numbers) mem-cons-self) in
+          let fits : f .number < number-limit = fit (f .number) (rw (f .numbers) mem-cons-self) in
           let comma = head-eq-of-cons-eq (sym at-byte ∙ f .split) in
           let number = first-at-start (f .numeral-bytes) (f .numeral) (f .further) fits in
           bad comma (f .number) (length (f .numeral-bytes)) (rw here number)

@@ -11,11 +11,12 @@ use native.Mathlib.Omega.{arith}
 use lib.ListN.{length, take, drop, getD, set, length-append, length-set, drop-of-length-le}
 use lib.Seq.{take-suc-set, length-take-le}
 use Rattle.command.specs.Text.{IsFields, none}
+use Rattle.command.specs.Commands.{number-limit}
 use Rattle.command.specs.Facts.Fields.{IsFirst, fields-cases, not-at-end, IsAfter, field-within, field-on, field-back, field-bad}
 use Rattle.command.specs.Reads.{IsNumberAtStart, IsReadField, Fit, AreNumbers, IsReadFields}
 use Rattle.command.specs.declared.numbers.Number.the-variants.{Bad}
 
-fit-last : {ns : List ℕ} {v : ℕ} → Fit ns → v < 4_294_967_296 → Fit (ns ++ (v ∷ []))
+fit-last : {ns : List ℕ} {v : ℕ} → Fit ns → v < number-limit → Fit (ns ++ (v ∷ []))
 fit-last {ns = ns} {v = v} fit small n there =
     Or·elim le-prop (mem-append .0 there) (λ before. fit n before) (λ last. ∥∥₁-elim last le-prop (λ d. omega (arith, List·Memᴰ·eq-of-singleton d)))
 

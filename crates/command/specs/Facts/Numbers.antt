@@ -10,6 +10,7 @@ use native.Mathlib.Omega.{arith}
 use lib.ListN.{length, take}
 use lib.Seq.{take-suc, take-take, length-take-le, getD-take}
 use Rattle.command.specs.Text.{IsNumeral, digit, further}
+use Rattle.command.specs.Commands.{number-limit}
 use Rattle.command.specs.Facts.Text.{numeral-unique, numeral-not-empty, numeral-digits, IsBegun, numeral-begun}
 use Rattle.command.specs.Reads.{Ends, at-end, before-other, IsDigitAt, IsNumberAtStart}
 
@@ -41,7 +42,7 @@ no-digit-at ends = record { at-most = omega arith; digit = λ small. absurd (lt-
 -- The first i bytes are read: none yet, or a numeral of this value.
 pub record IsReadTo (bytes : List ℕ) (i value : ℕ) : Type 0 where
   pub within : i ≤ length bytes
-  pub fits : value < 4_294_967_296
+  pub fits : value < number-limit
   pub numeral : ((i ≡ 0) × (value ≡ 0)) ⊎ IsNumeral (take i bytes) value
 
 -- before the first byte nothing is read, and the value is 0
@@ -101,7 +102,7 @@ module _ {bytes : List ℕ} {i value d : ℕ} (to : IsReadTo bytes i value) (at 
           ends-no-digit (rw last at (start .ends)) at small
 
 -- digits whose value is too large begin no number
-pub too-large : {bytes : List ℕ} (i : ℕ) {value : ℕ} → 1 ≤ i → i ≤ length bytes → IsNumeral (take i bytes) value → 4_294_967_296 ≤ value
+pub too-large : {bytes : List ℕ} (i : ℕ) {value : ℕ} → 1 ≤ i → i ≤ length bytes → IsNumeral (take i bytes) value → number-limit ≤ value
     → (v n : ℕ) → IsNumberAtStart bytes v n → ⊥
 too-large {bytes = bytes} i {value = value} some within read large v n start = go (decLt i n)
   where

@@ -164,8 +164,13 @@ put-written {before = before} {at = at} {r = r} put inside =
     ap (take r) (put .content ∙ sym (append-assoc (take at before) (put .bytes) (drop r before))) ∙ take-at front (drop r before) r long
 
 -- one line is lines
-pub one-line : {letter : ℕ} {ns bytes : List ℕ} → IsLine letter ns bytes → AreLines ((letter, ns) ∷ []) bytes
+one-line : {letter : ℕ} {ns bytes : List ℕ} → IsLine letter ns bytes → AreLines ((letter, ns) ∷ []) bytes
 one-line {letter} {ns} {bytes} is = subst (AreLines ((letter, ns) ∷ [])) (append-nil bytes) (line-then is no-lines)
+
+-- so where one line is put, lines are
+pub put-one-line : {letter : ℕ} {ns before after : List ℕ} {at r : ℕ} → IsPut (IsLine letter ns) before after at r
+    → IsPut (AreLines ((letter, ns) ∷ [])) before after at r
+put-one-line = put-as λ bytes. one-line
 
 -- and lines that are one are it
 pub only-line : {letter : ℕ} {ns bytes : List ℕ} → AreLines ((letter, ns) ∷ []) bytes → IsLine letter ns bytes

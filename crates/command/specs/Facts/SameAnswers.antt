@@ -11,8 +11,8 @@ use Rattle.alike.specs.Twins.{AreTwins}
 use Rattle.alike.specs.Facts.Twins.{equal-are-twins, still-twins, same-opening, change-answers, change-twins, add-rest, remove-rest, IsSameRound, same-round}
 use Rattle.command.specs.Commands.{Says}
 use Rattle.command.specs.Answers.{Gives, IsAnswered}
-use Rattle.command.specs.Step.{lines-of, IsAnswer, IsStep}
-use Rattle.command.specs.Puts.{AreLines}
+use Rattle.command.specs.Step.{IsAnswer, IsStep}
+use Rattle.command.specs.Puts.{AreLines, lines-of}
 use Rattle.command.specs.Facts.Unique.{says-one, lines-text}
 use Rattle.command.specs.declared.Command.{Command}
 use Rattle.command.specs.declared.Command.the-variants.{Open, Add, Remove, Round, Malformed}
@@ -21,16 +21,15 @@ use Rattle.command.specs.declared.step.Step.{Step}
 
 -- Two answers have the same lines, letter by letter and number by number, and leave twins.
 pub record IsSameAnswer (r s : Answered) : Type 0 where
-  pub lines : lines-of r ≡ lines-of s
+  pub lines : lines-of (r .lines) ≡ lines-of (s .lines)
   pub twins : AreTwins (r .planner) (s .planner)
 
 -- what is given of twins, of a letter and the same numbers
-same-given : {p q : Planner} {l : ℕ} {ns ms : List ℕ} {r s : Answered} → AreTwins p q → ns ≡ ms → Gives p l ns r → Gives q l ms s → IsSameAnswer r s
-same-given twins same given given′ =
-    let letter = given .letter ∙ sym (given′ .letter) in
-    let numbers = given .numbers ∙ same ∙ sym (given′ .numbers) in
+same-given : {p q : Planner} {l : ℕ} {ns ms : List ℕ} {r s : Answered} → AreTwins p q → ns ≡ ms
+    → Gives p ((l, ns) ∷ []) r → Gives q ((l, ms) ∷ []) s → IsSameAnswer r s
+same-given {l = l} twins same given given′ =
     record {
-      lines = λ i. (letter i, numbers i) ∷ [];
+      lines = given .its-lines ∙ (λ i. (l, same i) ∷ []) ∙ sym (given′ .its-lines);
       twins = still-twins twins (given .planner) (given′ .planner);
     }
 
@@ -63,8 +62,8 @@ same-answered twins number Malformed r s is is′ = same-given twins refl is is�
 
 -- Annex 12.25: twins answer a line with the same bytes, and twins are left
 pub same-text : {p q : Planner} → AreTwins p q → (number : ℕ) (line : List ℕ) (c d : Command) (r s : Answered) → Says line c → Says line d
-    → IsAnswered p number c r → IsAnswered q number d s → (one other : List ℕ) → AreLines (lines-of r) one → AreLines (lines-of s) other
-    → (one ≡ other) × AreTwins (r .planner) (s .planner)
+    → IsAnswered p number c r → IsAnswered q number d s → (one other : List ℕ)
+    → AreLines (lines-of (r .lines)) one → AreLines (lines-of (s .lines)) other → (one ≡ other) × AreTwins (r .planner) (s .planner)
 same-text {p} {q} twins number line c d r s says says′ is is′ one other text text′ =
     let command = says-one line d c says′ says in
     let same = same-answered twins number c r s is (subst (λ (x : Command). IsAnswered q number x s) command is′) in

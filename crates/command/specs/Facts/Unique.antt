@@ -8,7 +8,7 @@ use native.Mathlib.Decide.{ℕ-discrete}
 use native.Mathlib.Omega.{arith}
 use lib.ListN.{length, take, drop, getD, length-append}
 use lib.Seq.{take-append-seam, drop-append-seam}
-use Rattle.command.specs.Text.{IsNumeral, IsFields}
+use Rattle.command.specs.Text.{IsNumeral, IsFields, letter-O, letter-A, letter-D, letter-R}
 use Rattle.command.specs.Text.IsNumeral.{digit, further}
 use Rattle.command.specs.Text.IsFields.{none, more}
 use Rattle.command.specs.Commands.{IsGood, IsMalformed, Says}
@@ -101,8 +101,9 @@ good-unique {ms = ms} good good′ =
 -- The command of a letter and numbers.
 command-from : ℕ → List ℕ → Command
 command-from letter ns =
-    ite (ℕ-discrete letter 79) (Open (getD ns 0 0) (getD ns 1 0) (getD ns 2 0) (getD ns 3 0))
-    (ite (ℕ-discrete letter 65) (Add (getD ns 0 0) (getD ns 1 0) (getD ns 2 0) (getD ns 3 0)) (ite (ℕ-discrete letter 68) (Remove (getD ns 0 0)) Round))
+    ite (ℕ-discrete letter letter-O) (Open (getD ns 0 0) (getD ns 1 0) (getD ns 2 0) (getD ns 3 0))
+    (ite (ℕ-discrete letter letter-A) (Add (getD ns 0 0) (getD ns 1 0) (getD ns 2 0) (getD ns 3 0))
+    (ite (ℕ-discrete letter letter-D) (Remove (getD ns 0 0)) Round))
 
 -- What is said by a good line that says a command.
 record IsSaid (line : List ℕ) (c : Command) : Type 0 where
@@ -113,10 +114,10 @@ record IsSaid (line : List ℕ) (c : Command) : Type 0 where
 
 said : (line : List ℕ) (c : Command) → Says line c → IsSaid line c ⊎ (IsMalformed line × (c ≡ Malformed))
 unfolding command-from ℕ-discrete
-said line (Open b f g t) says = inl (record { letter = 79; numbers = b ∷ f ∷ g ∷ t ∷ []; good = says; command = refl })
-said line (Add id s p d) says = inl (record { letter = 65; numbers = id ∷ s ∷ p ∷ d ∷ []; good = says; command = refl })
-said line (Remove id) says = inl (record { letter = 68; numbers = id ∷ []; good = says; command = refl })
-said line Round says = inl (record { letter = 82; numbers = []; good = says; command = refl })
+said line (Open b f g t) says = inl (record { letter = letter-O; numbers = b ∷ f ∷ g ∷ t ∷ []; good = says; command = refl })
+said line (Add id s p d) says = inl (record { letter = letter-A; numbers = id ∷ s ∷ p ∷ d ∷ []; good = says; command = refl })
+said line (Remove id) says = inl (record { letter = letter-D; numbers = id ∷ []; good = says; command = refl })
+said line Round says = inl (record { letter = letter-R; numbers = []; good = says; command = refl })
 said line Malformed says = inr (says, refl)
 
 -- a malformed line says nothing else

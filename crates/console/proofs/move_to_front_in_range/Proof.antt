@@ -5,16 +5,17 @@ use Prim.Native.Nat.{_+_, _-_, _≤_, _<_}
 use native.Mathlib.Omega.{arith}
 use lib.ListN.{length, take, drop, length-set}
 use borrow.Author.Needs.{needs}
+use Rattle.console.specs.Transcript.{most-kept}
 use Rattle.console.specs.Facts.Moves.{one-moved}
 use Rattle.console.proofs.move_to_front_in_range.Statement.{statement}
 use Rattle.console.proofs.move_to_front_in_range.Tie as tie
 
 abbrev Inv-loop : tie.InvT-loop
 Inv-loop input₀ from have k₀ input k =
-    ((k ≤ 64) × (from + k ≤ have)) × ((length input ≡ length input₀) × (input ≡ take k (drop from input₀) ++ drop k input₀))
+    ((k ≤ most-kept) × (from + k ≤ have)) × ((length input ≡ length input₀) × (input ≡ take k (drop from input₀) ++ drop k input₀))
 
 abbrev μ-loop : tie.MeasureT-loop
-μ-loop input₀ from have k₀ input k = 64 - k
+μ-loop input₀ from have k₀ input k = most-kept - k
 
 loop-holds : tie.Need-loop-holds Inv-loop μ-loop
 loop-holds c = ((omega arith, omega (arith, c .pre .0)), (refl, refl))

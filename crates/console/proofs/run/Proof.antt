@@ -2,13 +2,14 @@
 use mathlib.Core.Path.{_≡_, sym, _∙_}
 use lib.ListN.{length}
 use borrow.Author.Needs.{needs}
+use Rattle.console.specs.Session.{buffer-places}
 use Rattle.console.specs.Facts.Turns.{Going, begun-going, can-turn, gone-on, can-finish}
 use Rattle.console.proofs.run.Statement.{statement}
 use Rattle.console.proofs.run.Tie as tie
 
 abbrev Inv-loop : tie.InvT-loop
 Inv-loop input₀ out₀ s₀ more₀ ended₀ turns₀ input out s more ended turns =
-    ((65536 ≡ length input) × (65536 ≡ length out)) × Going s ended input turns
+    ((buffer-places ≡ length input) × (buffer-places ≡ length out)) × Going s ended input turns
 
 abbrev μ-loop : tie.MeasureT-loop
 μ-loop input₀ out₀ s₀ more₀ ended₀ turns₀ input out s more ended turns = turns

@@ -7,6 +7,7 @@ use native.Mathlib.Decide.{decLe}
 use native.Mathlib.Omega.{arith}
 use lib.ListN.{length, take, drop, set, getD, length-take, length-drop}
 use lib.Seq.{length-take-le, take-all, drop-at, take-take, take-add, take-suc, drop-cons, set-at, getD-drop, getD-append-add}
+use Rattle.console.specs.Transcript.{most-kept}
 
 -- one byte more stands at the front
 pub one-moved : (l m : List ℕ) (from k : ℕ) → from + k < length l → m ≡ take k (drop from l) ++ drop k l
@@ -38,13 +39,14 @@ module _ (l : List ℕ) (from have : ℕ) (in-hand : from ≤ have) (within : ha
       ∙ drop-at (take from l) (take (have - from) (drop from l)) from (length-take-le from l (omega arith))
 
   -- the first 64 bytes at hand are those from `from` on, as many as there are before `have`, at most 64
-  pub first-64 : take 64 (drop from (take have l)) ≡ take (min 64 (have - from)) (drop from l)
-  first-64 = ap (take 64) hand-is ∙ go (decLe 64 (have - from))
+  pub first-kept : take most-kept (drop from (take have l)) ≡ take (min most-kept (have - from)) (drop from l)
+  first-kept = ap (take most-kept) hand-is ∙ go (decLe most-kept (have - from))
     where
-      go : Dec (64 ≤ have - from) → take 64 (take (have - from) (drop from l)) ≡ take (min 64 (have - from)) (drop from l)
+      go : Dec (most-kept ≤ have - from) → take most-kept (take (have - from) (drop from l)) ≡ take (min most-kept (have - from)) (drop from l)
       go (yes long) =
-          let least : 64 ≡ min 64 (have - from) = omega arith in
-          take-take 64 (have - from) (drop from l) long ∙ ap (λ (n : ℕ). take n (drop from l)) least
+          let least : most-kept ≡ min most-kept (have - from) = omega arith in
+          take-take most-kept (have - from) (drop from l) long ∙ ap (λ (n : ℕ). take n (drop from l)) least
       go (no short) =
-          let least : have - from ≡ min 64 (have - from) = omega arith in
-          take-all 64 (take (have - from) (drop from l)) (omega (arith, length-take (have - from) (drop from l))) ∙ ap (λ (n : ℕ). take n (drop from l)) least
+          let least : have - from ≡ min most-kept (have - from) = omega arith in
+          take-all most-kept (take (have - from) (drop from l)) (omega (arith, length-take (have - from) (drop from l)))
+          ∙ ap (λ (n : ℕ). take n (drop from l)) least

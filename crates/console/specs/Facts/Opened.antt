@@ -12,10 +12,11 @@ use Rattle.planner.specs.Open.{zeros, setting, IsFresh}
 use Rattle.planner.specs.Facts.Open.{closed-is-not-sound, open-success-is-sound}
 use Rattle.planner.specs.declared.Planner.{Planner}
 use Rattle.alike.specs.Facts.Five.{change-leaves-sound, round-leaves-sound, add-five, remove-five, round-five, open-never-five}
+use Rattle.command.specs.Text.{letter-O, letter-R}
 use Rattle.command.specs.Commands.{Says}
 use Rattle.command.specs.Answers.{Gives, IsAnswered}
-use Rattle.command.specs.Puts.{IsLine, AreLines}
-use Rattle.command.specs.Step.{lines-of, IsAnswer}
+use Rattle.command.specs.Puts.{IsLine, AreLines, lines-of}
+use Rattle.command.specs.Step.{IsAnswer}
 use Rattle.command.specs.Facts.Puts.{only-line}
 use Rattle.command.specs.Facts.Unique.{says-one, good-unique, line-numbers}
 use Rattle.command.specs.declared.Command.{Command}
@@ -25,19 +26,19 @@ use Rattle.console.specs.Transcript.{Transcript}
 use Rattle.console.specs.Transcript.Transcript.{none, next}
 use Rattle.console.specs.Opened.{IsNoOpen, IsOpen, AsksForOpen, IsFive}
 
-module _ (q : Planner) (number : ℕ) (line answer : List ℕ) (r : Answered) (text : AreLines (lines-of r) answer) where
+module _ (q : Planner) (number : ℕ) (line answer : List ℕ) (r : Answered) (text : AreLines (lines-of (r .lines)) answer) where
   -- the text of what is given
-  given-text : {p : Planner} {l : ℕ} {ns : List ℕ} → Gives p l ns r → IsLine l ns answer
-  given-text given = rw (← (given .letter), ← (given .numbers)) (only-line text)
+  given-text : {p : Planner} {l : ℕ} {ns : List ℕ} → Gives p ((l, ns) ∷ []) r → IsLine l ns answer
+  given-text given = only-line (subst (λ (lines : List (ℕ × List ℕ)). AreLines lines answer) (given .its-lines) text)
 
   -- A line that is no O opens nothing, and leaves the planner sound exactly if it was.
   record IsKept : Type 0 where
-    not-opened : IsLine 79 (0 ∷ []) answer → ⊥
+    not-opened : IsLine letter-O (0 ∷ []) answer → ⊥
     no-open : IsNoOpen line
     sound : Sound q ↔ Sound (r .planner)
 
   -- an answer of another letter
-  kept : {p : Planner} {l : ℕ} {ns : List ℕ} → Gives p l ns r → (l ≡ 79 → ⊥) → IsNoOpen line → Sound q ↔ Sound p → IsKept
+  kept : {p : Planner} {l : ℕ} {ns : List ℕ} → Gives p ((l, ns) ∷ []) r → (l ≡ letter-O → ⊥) → IsNoOpen line → Sound q ↔ Sound p → IsKept
   kept {p} given other no-open (on, back) =
       record {
         not-opened = λ opened. other (line-numbers (given-text given) opened .0);
@@ -46,31 +47,31 @@ module _ (q : Planner) (number : ℕ) (line answer : List ℕ) (r : Answered) (t
       }
 
   module _ (Before : Type 0) (before : Before ↔ Sound q) where
-    still : IsKept → (IsLine 79 (0 ∷ []) answer ⊎ (Before × IsNoOpen line)) ↔ Sound (r .planner)
+    still : IsKept → (IsLine letter-O (0 ∷ []) answer ⊎ (Before × IsNoOpen line)) ↔ Sound (r .planner)
     still is = (
       λ open-now. go open-now,
       λ sound. inr (before .1 (is .sound .1 sound), is .no-open),
     )
       where
-        go : IsLine 79 (0 ∷ []) answer ⊎ (Before × IsNoOpen line) → Sound (r .planner)
+        go : IsLine letter-O (0 ∷ []) answer ⊎ (Before × IsNoOpen line) → Sound (r .planner)
         go (inl opened) = absurd (is .not-opened opened)
         go (inr (was, _)) = is .sound .0 (before .0 was)
 
     -- after a line the planner is sound exactly if it is open
-    line-leaves : (c : Command) → Says line c → IsAnswered q number c r → (IsLine 79 (0 ∷ []) answer ⊎ (Before × IsNoOpen line)) ↔ Sound (r .planner)
+    line-leaves : (c : Command) → Says line c → IsAnswered q number c r → (IsLine letter-O (0 ∷ []) answer ⊎ (Before × IsNoOpen line)) ↔ Sound (r .planner)
     line-leaves (Open b f g t) says is = (go, λ sound. inl (opened sound (ℕ-discrete (is .done .answer) 0)))
       where
-        its-text : IsLine 79 (is .done .answer ∷ []) answer
+        its-text : IsLine letter-O (is .done .answer ∷ []) answer
         its-text = given-text (is .given)
 
         success : is .done .answer ≡ 0 → Sound (r .planner)
         success zero = subst⁻¹ Sound (is .given .planner) (open-success-is-sound (setting b f g) t (is .done) (is .by-contract) zero)
 
-        go : IsLine 79 (0 ∷ []) answer ⊎ (Before × IsNoOpen line) → Sound (r .planner)
+        go : IsLine letter-O (0 ∷ []) answer ⊎ (Before × IsNoOpen line) → Sound (r .planner)
         go (inl opened) = success (ap (λ (l : List ℕ). getD l 0 0) (line-numbers its-text opened .1))
         go (inr (_, no-open)) = absurd (no-open b f g t says)
 
-        opened : Sound (r .planner) → Dec (is .done .answer ≡ 0) → IsLine 79 (0 ∷ []) answer
+        opened : Sound (r .planner) → Dec (is .done .answer ≡ 0) → IsLine letter-O (0 ∷ []) answer
         opened sound (yes zero) = rw (← zero) its-text
         opened sound (no some) =
             absurd (closed-is-not-sound (is .done .planner) (is .by-contract .closed (λ zero. some (is .by-contract .answer ∙ zero)))
@@ -86,7 +87,7 @@ module _ (q : Planner) (number : ℕ) (line answer : List ℕ) (r : Answered) (t
         no-open : IsNoOpen line
         no-open b f g t other = lt-irrefl 0 (omega (arith, good-unique says other .0))
 
-        go : Dec (is .done .answer ≡ 0) → (IsLine 79 (0 ∷ []) answer ⊎ (Before × IsNoOpen line)) ↔ Sound (r .planner)
+        go : Dec (is .done .answer ≡ 0) → (IsLine letter-O (0 ∷ []) answer ⊎ (Before × IsNoOpen line)) ↔ Sound (r .planner)
         go (yes zero) = still (kept (is .held zero) (λ e. omega (arith, e)) no-open (round-leaves-sound (is .by-contract)))
         go (no some) = still (kept (is .refused some) (λ e. omega (arith, e)) no-open (round-leaves-sound (is .by-contract)))
     line-leaves Malformed says is = still (kept is (λ e. omega (arith, e)) (says .no-open) (λ a. a, λ a. a))
@@ -104,7 +105,7 @@ module _ (q : Planner) (number : ℕ) (line answer : List ℕ) (r : Answered) (t
   )
   five-if-unsound Round asks is = go (ℕ-discrete (is .done .answer) 0)
     where
-      go : Dec (is .done .answer ≡ 0) → IsLine 82 (5 ∷ []) answer ↔ (Sound q → ⊥)
+      go : Dec (is .done .answer ≡ 0) → IsLine letter-R (5 ∷ []) answer ↔ (Sound q → ⊥)
       go (yes zero) = (
         λ five. absurd (lt-irrefl 0 (omega (arith, ap (λ (l : List ℕ). getD l 0 0) (line-numbers (given-text (is .held zero)) five .1)))),
         λ bad. absurd (lt-irrefl 0 (omega (arith, zero, round-five (is .by-contract) .1 bad))),

@@ -14,11 +14,11 @@ use Rattle.command.specs.Lines.{IsLineEnd}
 use Rattle.command.specs.Runs.{CanRun, HasRun, HasRunLast}
 use Rattle.command.specs.Facts.Puts.{put-written}
 use Rattle.command.specs.declared.lines.Reached.{Reached}
-use Rattle.console.specs.Transcript.{HasNoEnd, Told, ToldAll}
+use Rattle.console.specs.Transcript.{most-kept, HasNoEnd, Told, ToldAll}
 use Rattle.console.specs.Facts.LineEnds.{no-end-first, rest-no-end}
-use Rattle.console.specs.Facts.Moves.{first-64}
+use Rattle.console.specs.Facts.Moves.{first-kept}
 use Rattle.console.specs.Facts.Transcript.{read-told, cut-told, step-answer, run-told, none-left, last-told}
-use Rattle.console.specs.Session.{at-hand, HasTold, InBounds}
+use Rattle.console.specs.Session.{buffer-places, at-hand, HasTold, InBounds}
 use Rattle.console.specs.Needs.{CanAnswer, HasAnswered, HasAnsweredLast}
 use Rattle.console.specs.Session.{CanKeep, CanRefill, delivered, IsTurned}
 use Rattle.console.specs.Needs.{handed-over, IsMoved, IsKept, IsRefilled}
@@ -56,7 +56,7 @@ module _ {s : Session} {input out : List ℕ} (can : CanAnswer s input out) wher
         }
       where
         go : IsLineEnd (had s input) (r .from) (length (had s input)) ⊎ (length out < r .end + room)
-            → HasNoEnd (drop (r .from) (had s input)) ⊎ (65536 < r .end + room)
+            → HasNoEnd (drop (r .from) (had s input)) ⊎ (buffer-places < r .end + room)
         go (inl line-end) = inl (rest-no-end (had s input) (r .from) line-end)
         go (inr full) = inr (omega (arith, full, can .room))
 
@@ -95,13 +95,13 @@ moved-up s k = record { reached = record { planner = s .reached .planner; number
 
 module _ {s : Session} {before after : List ℕ} {k : ℕ} (can : CanKeep s before) (is : IsMoved (s .reached .from) (s .have) before after k) where
   -- the first 64 of the bytes at hand stand at the front
-  front-is : take k after ≡ take 64 (at-hand s before)
+  front-is : take k after ≡ take most-kept (at-hand s before)
   front-is =
       let from = s .reached .from in
       let long : length (take k (drop from before)) ≡ k =
       length-take-le k (drop from before) (omega (arith, is .count, length-drop from before, can .bounds .from, can .bounds .have, can .places)) in
       ap (take k) (is .content) ∙ take-at (take k (drop from before)) (drop k before) k long ∙ ap (λ (n : ℕ). take n (drop from before)) (is .count)
-      ∙ sym (first-64 before from (s .have) (can .bounds .from) (omega (arith, can .bounds .have, can .places)))
+      ∙ sym (first-kept before from (s .have) (can .bounds .from) (omega (arith, can .bounds .have, can .places)))
 
   -- the bytes at hand, moved to the front, at most 64 of them, stand for what was at hand
   pub moved-kept : IsKept s before after (moved-up s k)
@@ -109,7 +109,8 @@ module _ {s : Session} {before after : List ℕ} {k : ℕ} (can : CanKeep s befo
       record {
         told = λ read written told. subst⁻¹ (Told read written (s .reached .planner) (s .reached .number)) front-is (cut-told (can .no-end) told);
         no-end = subst⁻¹ HasNoEnd front-is
-            (no-end-first (take 64 (at-hand s before)) (drop 64 (at-hand s before)) (subst⁻¹ HasNoEnd (take-append-drop 64 (at-hand s before)) (can .no-end)));
+            (no-end-first (take most-kept (at-hand s before)) (drop most-kept (at-hand s before))
+            (subst⁻¹ HasNoEnd (take-append-drop most-kept (at-hand s before)) (can .no-end)));
         from = refl;
         have = omega (arith, is .count);
         end = refl;
@@ -119,7 +120,7 @@ module _ {s : Session} {before after : List ℕ} {k : ℕ} (can : CanKeep s befo
 -- what a read delivers stands behind what was kept, which it leaves as it is
 module _ {s kept : Session} {before mid : List ℕ} (is : IsKept s before mid kept) (can : CanRefill s before) where
   module _ (after : List ℕ) (same : had kept after ≡ had kept mid) (wrote got : ℕ) (more ended : Bool)
-      (few : kept .have + got ≤ 65536) (at-end : ended ≡ true → got ≡ 0) where
+      (few : kept .have + got ≤ buffer-places) (at-end : ended ≡ true → got ≡ 0) where
     abbrev next : Turn
     next = record { session = record { reached = kept .reached; have = kept .have + got }; wrote = wrote; got = got; more = more; ended = ended }
 
@@ -153,12 +154,13 @@ module _ {s kept : Session} {before mid : List ℕ} (is : IsKept s before mid ke
             ap (λ (n : ℕ). drop (kept .reached .from) (take n after)) no-more ∙ ap (drop (kept .reached .from)) same
 
 -- bytes at the start of a part, counted from the whole
-pub within-part : (l : List ℕ) (from n got : ℕ) → got ≤ length (take n (drop from l)) → from ≤ 65536 → length l ≡ 65536 → from + got ≤ 65536
+pub within-part : (l : List ℕ) (from n got : ℕ) → got ≤ length (take n (drop from l)) → from ≤ buffer-places → length l ≡ buffer-places
+    → from + got ≤ buffer-places
 within-part l from n got few inside long = omega (arith, length-take n (drop from l), length-drop from l)
 
 module _ {s answered session : Session} {before out : List ℕ} (is : HasAnswered s before out answered) (over : session ≡ handed-over answered) where
   -- where there is room for another answer, no whole line is left
-  pub can-refill : length before ≡ 65536 → room ≤ 65536 - answered .reached .end → CanRefill session before
+  pub can-refill : length before ≡ buffer-places → room ≤ buffer-places - answered .reached .end → CanRefill session before
   can-refill places enough =
       subst⁻¹ (λ (x : Session). CanRefill x before) over
       (record {
@@ -166,7 +168,7 @@ module _ {s answered session : Session} {before out : List ℕ} (is : HasAnswere
         empty = refl;
       })
     where
-      go : HasNoEnd (at-hand answered before) ⊎ (65536 < answered .reached .end + room) → HasNoEnd (at-hand answered before)
+      go : HasNoEnd (at-hand answered before) ⊎ (buffer-places < answered .reached .end + room) → HasNoEnd (at-hand answered before)
       go (inl no-end) = no-end
       go (inr full) = absurd (lt-irrefl 0 (omega (arith, full, enough, is .end)))
 
@@ -174,7 +176,7 @@ module _ {s answered session : Session} {before out : List ℕ} (is : HasAnswere
   still-told read written told =
       subst⁻¹ (λ (x : Session). HasTold read (written ++ take (answered .reached .end) out) x before) over (is .told read written told)
 
-  few-lines : session .reached .number ≤ s .reached .number + 65536
+  few-lines : session .reached .number ≤ s .reached .number + buffer-places
   few-lines = omega (arith, ap (λ (x : Session). x .reached .number) over, is .number)
 
   -- a turn that has read

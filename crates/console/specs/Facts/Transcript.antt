@@ -19,19 +19,19 @@ use Rattle.command.specs.declared.Command.{Command}
 use Rattle.command.specs.declared.Command.the-variants.{Open, Add, Remove, Round, Malformed}
 use Rattle.command.specs.declared.lines.Reached.{Reached}
 use Rattle.command.specs.declared.step.Step.{Step}
-use Rattle.console.specs.Transcript.{HasNoEnd, IsCut, Told, ToldAll}
+use Rattle.console.specs.Transcript.{most-kept, HasNoEnd, IsCut, Told, ToldAll}
 use Rattle.console.specs.Transcript.Transcript.{next}
 use Rattle.console.specs.Facts.LineEnds.{no-end-first, no-end-second, no-end-both, before-the-end, split-line, line-no-end}
 
 -- two lines of 64 bytes or more say the same: nothing
-both-long : (line other : List ℕ) (c : Command) → 64 ≤ length line → 64 ≤ length other → Says line c → Says other c
+both-long : (line other : List ℕ) (c : Command) → most-kept ≤ length line → most-kept ≤ length other → Says line c → Says other c
 both-long line other (Open b f g t) long too says = absurd (lt-irrefl 0 (omega (arith, says .short)))
 both-long line other (Add id s p d) long too says = absurd (lt-irrefl 0 (omega (arith, says .short)))
 both-long line other (Remove id) long too says = absurd (lt-irrefl 0 (omega (arith, says .short)))
 both-long line other Round long too says = absurd (lt-irrefl 0 (omega (arith, says .short)))
 both-long line other Malformed long too says = too-long other (omega arith)
 
-long-answer : {p after : Planner} {n : ℕ} {line other answer : List ℕ} → 64 ≤ length line → 64 ≤ length other
+long-answer : {p after : Planner} {n : ℕ} {line other answer : List ℕ} → most-kept ≤ length line → most-kept ≤ length other
     → IsAnswer p n line answer after → IsAnswer p n other answer after
 long-answer {line = line} {other = other} long too is =
     record {
@@ -43,8 +43,8 @@ long-answer {line = line} {other = other} long too is =
       written = is .written;
     }
 
-long-enough : (line more : List ℕ) → 64 ≤ length line → 64 ≤ length (take 64 line ++ more)
-long-enough line more long = omega (arith, length-append (take 64 line) more, length-take-le 64 line long)
+long-enough : (line more : List ℕ) → most-kept ≤ length line → most-kept ≤ length (take most-kept line ++ more)
+long-enough line more long = omega (arith, length-append (take most-kept line) more, length-take-le most-kept line long)
 
 -- one line more is answered
 line-told : {read written : List ℕ} {p : Planner} {n : ℕ} (line more answer : List ℕ) (after : Planner)
@@ -72,13 +72,13 @@ line-told {read} {written} {p} {n} line more answer after no-end is told = go (t
     go : ((line ++ (10 ∷ more)) ≡ told .rest) ⊎ IsCut (line ++ (10 ∷ more)) (told .rest) → Told read (written ++ answer) after (n + 1) more
     go (inl same) = grown line no-end is (sym same)
     go (inr cut) =
-        let short = take 64 (cut .line) in
-        let whole-no-end = subst HasNoEnd (sym (take-append-drop 64 (cut .line))) (cut .no-end) in
-        let short-no-end : HasNoEnd short = no-end-first short (drop 64 (cut .line)) whole-no-end in
+        let short = take most-kept (cut .line) in
+        let whole-no-end = subst HasNoEnd (sym (take-append-drop most-kept (cut .line))) (cut .no-end) in
+        let short-no-end : HasNoEnd short = no-end-first short (drop most-kept (cut .line)) whole-no-end in
         let (b, (line-is, more-is)) = before-the-end short (cut .more) line more short-no-end (sym (cut .kept-is)) in
         let b-no-end : HasNoEnd b = no-end-second short b (subst HasNoEnd line-is no-end) in
-        let long : 64 ≤ length line = subst (λ (l : List ℕ). 64 ≤ length l) (sym line-is) (long-enough (cut .line) b (cut .long)) in
-        let whole-long : 64 ≤ length (cut .line ++ b) = omega (arith, length-append (cut .line) b, cut .long) in
+        let long : most-kept ≤ length line = subst (λ (l : List ℕ). most-kept ≤ length l) (sym line-is) (long-enough (cut .line) b (cut .long)) in
+        let whole-long : most-kept ≤ length (cut .line ++ b) = omega (arith, length-append (cut .line) b, cut .long) in
         grown (cut .line ++ b) (no-end-both (cut .line) b (cut .no-end) b-no-end) (long-answer long whole-long is)
         (cut .rest-is ∙ ap (λ (l : List ℕ). cut .line ++ l) more-is ∙ sym (append-assoc (cut .line) b (10 ∷ more)))
 
@@ -109,25 +109,29 @@ read-told {kept = kept} bytes told =
           more = cut .more ++ bytes;
           long = cut .long;
           no-end = cut .no-end;
-          kept-is = ap (λ (l : List ℕ). l ++ bytes) (cut .kept-is) ∙ append-assoc (take 64 (cut .line)) (cut .more) bytes;
+          kept-is = ap (λ (l : List ℕ). l ++ bytes) (cut .kept-is) ∙ append-assoc (take most-kept (cut .line)) (cut .more) bytes;
           rest-is = ap (λ (l : List ℕ). l ++ bytes) (cut .rest-is) ∙ append-assoc (cut .line) (cut .more) bytes;
         })
 
 -- where no line end is left, the first 64 bytes stand for all
-pub cut-told : {read written : List ℕ} {p : Planner} {n : ℕ} {kept : List ℕ} → HasNoEnd kept → Told read written p n kept → Told read written p n (take 64 kept)
+pub cut-told : {read written : List ℕ} {p : Planner} {n : ℕ} {kept : List ℕ} → HasNoEnd kept → Told read written p n kept
+    → Told read written p n (take most-kept kept)
 cut-told {kept = kept} no-end told =
     record { rest = told .rest; answered = told .answered; stands = go (told .stands) }
   where
-    whole-or-cut : (l : List ℕ) → HasNoEnd l → Dec (length l < 64) → (take 64 l ≡ l) ⊎ IsCut (take 64 l) l
-    whole-or-cut l none-there (yes short) = inl (take-all 64 l (omega arith))
+    whole-or-cut : (l : List ℕ) → HasNoEnd l → Dec (length l < most-kept) → (take most-kept l ≡ l) ⊎ IsCut (take most-kept l) l
+    whole-or-cut l none-there (yes short) = inl (take-all most-kept l (omega arith))
     whole-or-cut l none-there (no long) =
-        inr (record { line = l; more = []; long = omega arith; no-end = none-there; kept-is = sym (append-nil (take 64 l)); rest-is = sym (append-nil l) })
+        let kept-is = sym (append-nil (take most-kept l)) in
+        inr (record { line = l; more = []; long = omega arith; no-end = none-there; kept-is = kept-is; rest-is = sym (append-nil l) })
 
-    go : (kept ≡ told .rest) ⊎ IsCut kept (told .rest) → (take 64 kept ≡ told .rest) ⊎ IsCut (take 64 kept) (told .rest)
-    go (inl same) = subst (λ (l : List ℕ). (take 64 kept ≡ l) ⊎ IsCut (take 64 kept) l) same (whole-or-cut kept no-end (decLt (length kept) 64))
+    go : (kept ≡ told .rest) ⊎ IsCut kept (told .rest) → (take most-kept kept ≡ told .rest) ⊎ IsCut (take most-kept kept) (told .rest)
+    go (inl same) = subst (λ (l : List ℕ). (take most-kept kept ≡ l) ⊎ IsCut (take most-kept kept) l) same
+        (whole-or-cut kept no-end (decLt (length kept) most-kept))
     go (inr cut) =
-        let short = take 64 (cut .line) in
-        let first-64 : take 64 kept ≡ short = ap (take 64) (cut .kept-is) ∙ take-at short (cut .more) 64 (length-take-le 64 (cut .line) (cut .long)) in
+        let short = take most-kept (cut .line) in
+        let first-kept : take most-kept kept ≡ short =
+        ap (take most-kept) (cut .kept-is) ∙ take-at short (cut .more) most-kept (length-take-le most-kept (cut .line) (cut .long)) in
         let more-no-end : HasNoEnd (cut .more) = no-end-second short (cut .more) (subst HasNoEnd (cut .kept-is) no-end) in
         inr
         (record {
@@ -135,7 +139,8 @@ cut-told {kept = kept} no-end told =
           more = [];
           long = omega (arith, length-append (cut .line) (cut .more), cut .long);
           no-end = no-end-both (cut .line) (cut .more) (cut .no-end) more-no-end;
-          kept-is = first-64 ∙ sym (take-append-le 64 (cut .line) (cut .more) (cut .long)) ∙ sym (append-nil (take 64 (cut .line ++ cut .more)));
+          kept-is = first-kept ∙ sym (take-append-le most-kept (cut .line) (cut .more) (cut .long))
+              ∙ sym (append-nil (take most-kept (cut .line ++ cut .more)));
           rest-is = cut .rest-is ∙ sym (append-nil (cut .line ++ cut .more));
         })
 
@@ -184,8 +189,8 @@ none-left {read} {written} {p} {n} told = go (told .stands)
           last-line = λ some. absurd (some (sym same));
         }
     go (inr cut) =
-        let long = length-append (take 64 (cut .line)) (cut .more) in
-        absurd (lt-irrefl 0 (omega (arith, ap length (cut .kept-is), long, length-take-le 64 (cut .line) (cut .long))))
+        let long = length-append (take most-kept (cut .line)) (cut .more) in
+        absurd (lt-irrefl 0 (omega (arith, ap length (cut .kept-is), long, length-take-le most-kept (cut .line) (cut .long))))
 
 module _ {read written : List ℕ} {p : Planner} {n : ℕ} {kept : List ℕ} (told : Told read written p n kept) (no-end : HasNoEnd kept) (some : kept ≡ [] → ⊥) where
   -- bytes left without a line end, at least one, are the last line: with its answer all that was read is answered
@@ -208,9 +213,9 @@ module _ {read written : List ℕ} {p : Planner} {n : ℕ} {kept : List ℕ} (to
       go : (kept ≡ told .rest) ⊎ IsCut kept (told .rest) → ToldAll read (written ++ answer)
       go (inl same) = ended (subst HasNoEnd same no-end) (λ nothing. some (same ∙ nothing)) (subst (λ (l : List ℕ). IsAnswer p (n + 1) l answer after) same is)
       go (inr cut) =
-          let more-no-end : HasNoEnd (cut .more) = no-end-second (take 64 (cut .line)) (cut .more) (subst HasNoEnd (cut .kept-is) no-end) in
-          let rest-long : 64 ≤ length (told .rest) = omega (arith, ap length (cut .rest-is), length-append (cut .line) (cut .more), cut .long) in
-          let long = subst (λ (l : List ℕ). 64 ≤ length l) (sym (cut .kept-is)) (long-enough (cut .line) (cut .more) (cut .long)) in
+          let more-no-end : HasNoEnd (cut .more) = no-end-second (take most-kept (cut .line)) (cut .more) (subst HasNoEnd (cut .kept-is) no-end) in
+          let rest-long : most-kept ≤ length (told .rest) = omega (arith, ap length (cut .rest-is), length-append (cut .line) (cut .more), cut .long) in
+          let long = subst (λ (l : List ℕ). most-kept ≤ length l) (sym (cut .kept-is)) (long-enough (cut .line) (cut .more) (cut .long)) in
           ended (subst HasNoEnd (sym (cut .rest-is)) (no-end-both (cut .line) (cut .more) (cut .no-end) more-no-end))
           (λ nothing. lt-irrefl 0 (omega (arith, ap length nothing)))
           (long-answer long rest-long is)

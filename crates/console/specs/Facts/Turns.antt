@@ -8,8 +8,8 @@ use native.Mathlib.Omega.{arith}
 use lib.ListN.{length, take, length-take, drop-of-length-le}
 use Rattle.console.specs.Transcript.{HasNoEnd, Told}
 use Rattle.console.specs.Transcript.Transcript.{none}
-use Rattle.console.specs.Session.{at-hand, HasTold, InBounds, delivered, IsTurned}
-use Rattle.console.specs.Needs.{IsBegun, CanAnswer, CanAnswerLast}
+use Rattle.console.specs.Session.{buffer-places, at-hand, HasTold, InBounds, delivered, IsTurned}
+use Rattle.console.specs.Needs.{most-lines, IsBegun, CanAnswer, CanAnswerLast}
 use Rattle.console.specs.declared.Session.{Session}
 use Rattle.console.specs.declared.Turn.{Turn}
 
@@ -18,7 +18,7 @@ pub record Going (s : Session) (ended : Bool) (input : List ℕ) (turns : ℕ) :
   pub told : (read : List ℕ) × ((written : List ℕ) × HasTold read written s input)
   pub bounds : InBounds s
   pub empty : s .reached .end ≡ 0
-  pub number : s .reached .number + turns * 65536 ≤ 9_223_372_036_854_775_808
+  pub number : s .reached .number + turns * buffer-places ≤ most-lines
   pub at-end : ended ≡ true → HasNoEnd (at-hand s input)
 
 -- at the beginning nothing is read, written or at hand
@@ -47,7 +47,7 @@ begun-going {input = input} is =
 
 module _ {s : Session} {ended : Bool} {input : List ℕ} {turns : ℕ} (going : Going s ended input turns) where
   -- between turns whole lines at hand can be answered: the output is empty, and the line number cannot wrap
-  pub can-turn : {out : List ℕ} → length input ≡ 65536 → length out ≡ 65536 → CanAnswer s input out
+  pub can-turn : {out : List ℕ} → length input ≡ buffer-places → length out ≡ buffer-places → CanAnswer s input out
   can-turn places room =
       record { bounds = going .bounds; empty = going .empty; number = omega (arith, going .number); places = places; room = room }
 
@@ -70,5 +70,5 @@ module _ {s : Session} {ended : Bool} {input : List ℕ} {turns : ℕ} (going : 
       }
 
   -- where the input has ended, what is at hand can be answered as the last line
-  pub can-finish : {out : List ℕ} → length input ≡ 65536 → length out ≡ 65536 → ended ≡ true → CanAnswerLast s input out
+  pub can-finish : {out : List ℕ} → length input ≡ buffer-places → length out ≡ buffer-places → ended ≡ true → CanAnswerLast s input out
   can-finish places room end = record { can-answer = can-turn places room; no-end = going .at-end end }

@@ -1,10 +1,12 @@
 -- `command::answers::held` meets its contract: at the head of turn k the first k ids stand behind 0, the start and n.
-use mathlib.Core.Path.{refl}
+use mathlib.Core.Path.{refl, ap}
+use mathlib.Core.List.{[], _∷_}
 use Prim.Native.Nat.{_-_, _≤_}
 use native.Mathlib.Omega.{arith}
 use mir.Syntax.{w16}
 use borrow.Kind.Array.{good-length, eInt}
 use borrow.Author.Needs.{needs}
+use Rattle.command.specs.Text.{letter-R}
 use Rattle.command.specs.Facts.Answers.{Copied, none-copied, one-more-copied, all-copied}
 use Rattle.command.proofs.answers.held.Statement.{statement}
 use Rattle.command.proofs.answers.held.Tie as tie
@@ -72,8 +74,7 @@ returns c =
     let sixty-four = good-length (eInt w16) 64 (start .args .t2) _ (start .good .1 .0) in
     record {
       planner = refl;
-      letter = refl;
-      numbers = all-copied sixty-four refl (start .pre) (omega arith) (c .before .loop .inv .1);
+      its-lines = ap (λ ns. (letter-R, ns) ∷ []) (all-copied sixty-four refl (start .pre) (omega arith) (c .before .loop .inv .1));
       few = omega arith;
     }
 

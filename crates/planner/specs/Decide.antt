@@ -6,7 +6,7 @@ use Prim.Native.Nat.{ℕ, _+_, _<_}
 use native.Mathlib.Decide.{ℕ-discrete, decLe, decLt, decDvd, map-dec}
 use lib.ListN.{length}
 use Rattle.basics.specs.OneTo.{decide-one-to}
-use Rattle.basics.specs.Limits.{furthest-release, largest-id, longest-period}
+use Rattle.basics.specs.Limits.{furthest-release, largest-id, longest-period, last-start, places}
 use Rattle.basics.specs.Refusals.{answer-of}
 use Rattle.rules.specs.Decide.{decide-demand-rule, decide-start-rule}
 use Rattle.table.specs.Table.{due-of}
@@ -50,7 +50,7 @@ decide-numbers s t = map-dec (open-exact .0) (open-exact .1) (ℕ-discrete (answ
 decide-in-range : (h : Content) → Dec (InRange h)
 decide-in-range h =
     map-dec (λ w. in-range-by-numbers (w .0) (w .1 .0) (w .1 .1)) (λ r. (range-numbers r, (r .at-most, r .records)))
-    (Dec·and (decide-numbers (h .setting) (h .last)) (Dec·and (decLe (length (h .table)) 64) (decide-records (frame-of h) (h .table))))
+    (Dec·and (decide-numbers (h .setting) (h .last)) (Dec·and (decLe (length (h .table)) places) (decide-records (frame-of h) (h .table))))
 
 decide-content : (h : Content) → Dec (ContentSound h)
 decide-content h =
@@ -73,7 +73,7 @@ pub decide-sound : (p : Planner) → Dec (Sound p)
 decide-sound p =
     map-dec (λ w. record { count = w .0; content-sound = w .1 .0; queue-sound = w .1 .1 .0; files = w .1 .1 .1 })
     (λ s. (s .count, (s .content-sound, (s .queue-sound, s .files))))
-    (Dec·and (decLe (p .table .count) 64)
+    (Dec·and (decLe (p .table .count) places)
     (Dec·and (decide-content (content p))
     (Dec·and (Interface.decide-sound (p .queue)) (decide-files (entries (p .queue)) (content p .table)))))
 
@@ -83,10 +83,10 @@ decide-late p (no unsound) = yes (λ sound. absurd (unsound sound))
 decide-late p (yes sound) = go (sound-start p sound)
   where
     go : ((s : ℕ) × IsStart (content p) s) → Dec (StartsLate p)
-    go (s, lazy) = at (decLt 1_000_000_000 s)
+    go (s, lazy) = at (decLt last-start s)
       where
-        at : Dec (1_000_000_000 < s) → Dec (StartsLate p)
+        at : Dec (last-start < s) → Dec (StartsLate p)
         at (yes late) =
             let h = content p in
-            yes (λ _ x is. subst (λ (y : ℕ). 1_000_000_000 < y) (lazy-unique (slots-of h) (cap-of h) (streams-in h) s x lazy is) late)
+            yes (λ _ x is. subst (λ (y : ℕ). last-start < y) (lazy-unique (slots-of h) (cap-of h) (streams-in h) s x lazy is) late)
         at (no early) = no (λ all. early (all sound s lazy))

@@ -68,7 +68,7 @@ pub record CanChoose (p : Planner) (s : ℕ) : Type 0 where
 -- The ids of a round's slots, in their order.
 pub record IsChosen (h : Content) (s : ℕ) (chosen : Chosen) : Type 0 where
   pub n : chosen .n ≡ length (ids-at h s)
-  pub ids : take (chosen .n) (chosen .ids) ≡ ids-at h s
+  pub ids : take (chosen .n) (chosen .placed .ids) ≡ ids-at h s
   pub few : chosen .n ≤ slots-of h
 
 -- The row of an id's stream in the table, and its place in the queue.
@@ -79,7 +79,8 @@ pub record IsFoundAt (table : Table) (queue : Queue) (id row place : ℕ) : Type
 
 -- Each id chosen stands beside its row and its place.
 abbrev pub AreFound : Table → Queue → Chosen → Type 0
-AreFound table queue chosen = (k : ℕ) → k < chosen .n → IsFoundAt table queue (getD (chosen .ids) k 0) (getD (chosen .rows) k 0) (getD (chosen .places) k 0)
+AreFound table queue chosen =
+    (k : ℕ) → k < chosen .n → IsFoundAt table queue (getD (chosen .placed .ids) k 0) (getD (chosen .rows) k 0) (getD (chosen .placed .places) k 0)
 
 -- What serving the slots relies on: they are those of the start of a sound planner, which is not late, each id beside its row and place.
 pub record CanServeAll (p : Planner) (s : ℕ) (chosen : Chosen) : Type 0 where

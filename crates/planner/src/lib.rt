@@ -99,7 +99,8 @@ pub fn round(p: Planner, buffer: &mut [u16]) -> Rounded
         };
     }
     let chosen = slots::choose_sound(p, start);
-    let ids = chosen.ids;
+    let placed = chosen.placed;
+    let ids = placed.ids;
     slots::write_ids_in_range(buffer, ids, chosen.n);
     let planner = slots::serve_sound(p, chosen, start);
     Rounded {

@@ -1,15 +1,17 @@
 // A stream offered to a planner: whether it is refused, and the planner that takes it in.
 ghost use mathlib.Core.Path.{_≡_};
+ghost use mathlib.Core.List.{_∷_};
 ghost use Rattle.basics.specs.Refusals.{answer-of};
 ghost use Rattle.table.specs.Needs.{HasRecords};
 ghost use Rattle.planner.specs.Content.{content};
 ghost use Rattle.planner.specs.Sound.{Sound};
-ghost use Rattle.planner.specs.AddRemove.{offer, offer-refusals, rule-refusals, add-refusals, added, IsSoundWith, IsAdd};
+ghost use Rattle.planner.specs.AddRemove.{offer, unsound, offer-refusals, rule-refusals, added, IsSoundWith, IsAdd};
 ghost use Rattle.planner.specs.Needs.{CanAdd, CanTest};
 use super::Changed;
 use super::Offer;
 use super::Planner;
 use super::soundness::sound_start;
+use basics::FURTHEST_RELEASE;
 use basics::LARGEST_ID;
 use basics::LONGEST_PERIOD;
 use basics::PLACES;
@@ -17,7 +19,7 @@ use basics::is_one_to;
 use table::Record;
 use table::Table;
 
-// 6 to 11: what speaks of the stream alone. The start is compared with now before anything is added to it.
+// 6 to 11: what speaks of the stream alone. Nothing is added to its start, which can be any number.
 fn offer_refusal_sound(p: Planner, offer: Offer) -> u32
     requires { ⌜ Sound p ⌝ }
     ensures { λ r. ⌜ r ≡ answer-of (offer-refusals (content p) offer) ⌝ }
@@ -26,7 +28,7 @@ fn offer_refusal_sound(p: Planner, offer: Offer) -> u32
         return 6;
     }
     let table = p.table;
-    if table::place_of_in_range(table, offer.id) != table.count {
+    if table::has_id_in_range(table, offer.id) {
         return 7;
     }
     if table.count == PLACES {
@@ -41,13 +43,24 @@ fn offer_refusal_sound(p: Planner, offer: Offer) -> u32
     if !is_one_to(offer.deadline, offer.period) {
         return 10;
     }
-    if offer.start <= p.last {
+    let now = p.last + 1;
+    if offer.start < now {
         return 11;
     }
-    if p.last + LONGEST_PERIOD < offer.start {
+    if now + FURTHEST_RELEASE < offer.start {
         return 11;
     }
     0
+}
+
+// 5 to 11: what speaks of the planner as it is, and of the stream alone.
+fn offer_refusal(p: Planner, offer: Offer) -> u32
+    ensures { λ r. ⌜ r ≡ answer-of (unsound p ∷ offer-refusals (content p) offer) ⌝ }
+{
+    if sound_start(p) == 0 {
+        return 5;
+    }
+    offer_refusal_sound(p, offer)
 }
 
 // The table with the stream.
@@ -66,11 +79,10 @@ fn table_with_sound(p: Planner, offer: Offer) -> Table
 }
 
 // 12 and 13: the two rules on the table with the stream.
-fn rule_refusal_sound(p: Planner, offer: Offer) -> u32
-    requires { ⌜ CanTest p offer ⌝ }
+fn rule_refusal_sound(p: Planner, offer: Offer, table: Table) -> u32
+    requires { ⌜ CanTest p offer × HasRecords (added (content p) offer .table) table ⌝ }
     ensures { λ r. ⌜ r ≡ answer-of (rule-refusals (added (content p) offer)) ⌝ }
 {
-    let table = table_with_sound(p, offer);
     let busy = table::busy_length_in_range(table, p.setting.slots, p.setting.frame);
     if busy == 0 {
         return 12;
@@ -83,25 +95,11 @@ fn rule_refusal_sound(p: Planner, offer: Offer) -> u32
     0
 }
 
-fn add_refusal(p: Planner, offer: Offer) -> u32
-    ensures { λ r. ⌜ r ≡ answer-of (add-refusals p offer) ⌝ }
-{
-    if sound_start(p) == 0 {
-        return 5;
-    }
-    let answer = offer_refusal_sound(p, offer);
-    if answer != 0 {
-        return answer;
-    }
-    rule_refusal_sound(p, offer)
-}
-
-// The stream goes into the table by its id, and into the queue under its due time.
-fn add_sound(p: Planner, offer: Offer) -> Planner
-    requires { ⌜ CanAdd p offer ⌝ }
+// The planner has the table with the stream, and the queue has the stream under its due time.
+fn add_sound(p: Planner, offer: Offer, table: Table) -> Planner
+    requires { ⌜ CanAdd p offer × HasRecords (added (content p) offer .table) table ⌝ }
     ensures { λ r. ⌜ IsSoundWith (added (content p) offer) r ⌝ }
 {
-    let table = table_with_sound(p, offer);
     let filed = p.queue;
     let queue = queue::insert_sound(filed, offer.id, offer.start + offer.deadline, offer.start);
     let mut after = p;
@@ -110,16 +108,29 @@ fn add_sound(p: Planner, offer: Offer) -> Planner
     after
 }
 
+// What add does once none of 5 to 11 applies. The table with the stream is built once: it is tested, and it is the one stored.
+fn add_tested(p: Planner, offer: Offer) -> Changed
+    requires { ⌜ CanTest p offer ⌝ }
+    ensures { λ r. ⌜ IsAdd p offer r ⌝ }
+{
+    let table = table_with_sound(p, offer);
+    let answer = rule_refusal_sound(p, offer, table);
+    if answer != 0 {
+        return Changed { answer, planner: p };
+    }
+    let planner = add_sound(p, offer, table);
+    Changed { answer: 0, planner }
+}
+
 // A refused offer leaves the planner as it was.
 fn add_offer(p: Planner, offer: Offer) -> Changed
     ensures { λ r. ⌜ IsAdd p offer r ⌝ }
 {
-    let answer = add_refusal(p, offer);
+    let answer = offer_refusal(p, offer);
     if answer != 0 {
         return Changed { answer, planner: p };
     }
-    let planner = add_sound(p, offer);
-    Changed { answer: 0, planner }
+    add_tested(p, offer)
 }
 
 // Annex 7.10 to 7.20: takes a stream in, whose first packet is released at `start`.

@@ -10,19 +10,13 @@ use basics::LONGEST_FRAME;
 use basics::LONGEST_GAP;
 use basics::MOST_SLOTS;
 use basics::is_one_to;
-use table::Record;
 use table::Table;
 
 // A planner with no stream.
 fn without_streams(setting: Setting, last: u32) -> Planner
     ensures { λ r. ⌜ IsFresh setting last r ⌝ }
 {
-    let none = Record {
-        id: 0,
-        period: 0,
-        deadline: 0,
-        release: 0,
-    };
+    let none = table::no_record();
     let streams = [none; 64];
     let table = Table { count: 0, streams };
     let queue = queue::empty();

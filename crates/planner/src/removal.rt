@@ -15,7 +15,7 @@ pub fn remove_refusal(p: Planner, id: u32) -> u32
         return 5;
     }
     let table = p.table;
-    if table::place_of_in_range(table, id) == table.count {
+    if !table::has_id_in_range(table, id) {
         return 14;
     }
     0

@@ -3,6 +3,7 @@ ghost use mathlib.Core.Path.{_≡_};
 ghost use mathlib.Core.List.{_++_};
 ghost use Prim.Native.Nat.{_≤_};
 ghost use lib.ListN.{length, take, drop};
+ghost use Rattle.basics.specs.Limits.{most-slots};
 ghost use Rattle.planner.specs.Content.{content};
 ghost use Rattle.planner.specs.AddRemove.{IsSoundWith};
 ghost use Rattle.planner.specs.Round.{rounded};
@@ -14,17 +15,16 @@ use queue::Queue;
 use table::Record;
 use table::Table;
 
-// The ids chosen for a round, in the first n places, and beside each its stream's row in the table and its place in the queue.
+// The ids chosen for a round, in the first n places, beside each its place in the queue, and its stream's row in the table.
 pub struct Chosen {
-    pub ids: [u16; 64],
+    pub placed: Placed,
     pub rows: [usize; 64],
-    pub places: [usize; 64],
     pub n: usize,
 }
 
 // The first n ids go to the first n places of the buffer; the later ones stay.
 pub fn write_ids_in_range(buffer: &mut [u16], ids: [u16; 64], n: usize)
-    requires { ⌜ (n ≤ 64) × (n ≤ length (now buffer)) ⌝ }
+    requires { ⌜ (n ≤ most-slots) × (n ≤ length (now buffer)) ⌝ }
     ensures { λ _. ⌜ now (buffer .exit) ≡ take n ids ++ drop n (now (buffer .entry)) ⌝ }
 {
     let mut k: usize = 0;
@@ -44,31 +44,30 @@ pub fn choose_sound(p: Planner, start: u32) -> Chosen
     let streams = table.streams;
     let order = queue::in_order_sound(queue, table.count);
     let ids = table::ids_in_range(table);
-    let mut chosen = Chosen {
+    let mut placed = Placed {
         ids: [0u16; 64],
-        rows: [0usize; 64],
         places: [0usize; 64],
-        n: 0,
     };
+    let mut rows = [0usize; 64];
+    let mut n: usize = 0;
     let mut i: usize = 0;
     while i < table.count {
-        let n = chosen.n;
         if n == p.setting.slots as usize {
-            return chosen;
+            return Chosen { placed, rows, n };
         }
         let id = order.ids[i];
         let place = order.places[i];
         let row = basics::place_among_rising(&ids, wide(id));
         let stream = streams[row];
         if stream.release <= start {
-            chosen.ids[n] = id;
-            chosen.rows[n] = row;
-            chosen.places[n] = place;
-            chosen.n = n + 1;
+            placed.ids[n] = id;
+            placed.places[n] = place;
+            rows[n] = row;
+            n += 1;
         }
         i += 1;
     }
-    chosen
+    Chosen { placed, rows, n }
 }
 
 // The planner with a round held at start, which left these streams and this queue.
@@ -104,10 +103,6 @@ pub fn serve_sound(p: Planner, chosen: Chosen, start: u32) -> Planner
         k += 1;
     }
     let filed = p.queue;
-    let served = Placed {
-        ids: chosen.ids,
-        places: chosen.places,
-    };
-    let queue = queue::move_all_sound(filed, served, periods, chosen.n);
+    let queue = queue::move_all_sound(filed, chosen.placed, periods, chosen.n);
     after_round(p, start, streams, queue)
 }

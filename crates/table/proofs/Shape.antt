@@ -7,6 +7,7 @@ use lib.ListN.{length, length-map}
 use mir.Val.{Val}
 use denote.Laws.{Is}
 use denote.Struct.Declared.{row}
+use Rattle.basics.specs.Limits.{places}
 use Rattle.table.specs.declared.Table.{Table}
 use Rattle.table.proofs.Record as the-record
 use Rattle.table.proofs.Table as the-table
@@ -18,5 +19,5 @@ table-shape table vs is =
     sym (length-map (table .streams) (the-record.the-type .to)) ∙ fields .1 .0 .1 .0 .1
 
 -- .. so that a count of at most 64 is within them
-pub table-holds : (table : Table) (vs : List Val) → Is (row the-table.the-type) table vs → table .count ≤ 64 → table .count ≤ length (table .streams)
+pub table-holds : (table : Table) (vs : List Val) → Is (row the-table.the-type) table vs → table .count ≤ places → table .count ≤ length (table .streams)
 table-holds table vs is few = omega (arith, table-shape table vs is)

@@ -78,7 +78,7 @@ hits-before times t (suc n) = hits-before times t n + hits (getD times n 0) t
 
 -- What going one length further relies on.
 pub record CanAdvance (periods times : List ℕ) (n t : ℕ) : Type 0 where
-  pub count : n ≤ 64
+  pub count : n ≤ places
   pub room : n ≤ length times
   pub short : (k : ℕ) → k < n → getD periods k 0 ≤ longest-period
   pub near : t ≤ 60_000

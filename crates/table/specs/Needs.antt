@@ -4,8 +4,8 @@ use mathlib.Core.Logic.{ite}
 use mathlib.Core.List.{List, List·Mem, map}
 use Prim.Native.Nat.{ℕ, _≤_, _<_}
 use native.Mathlib.Decide.{ℕ-discrete}
-use Rattle.basics.specs.Limits.{places, largest-key}
-use Rattle.table.specs.Table.{records-of, record-at, stream-at, value-of}
+use Rattle.basics.specs.Limits.{places, largest-id, largest-key}
+use Rattle.table.specs.Table.{records-of, stream-at, value-of}
 use Rattle.table.specs.Changes.{HasId, sent, Ascending}
 use Rattle.table.specs.declared.Record.{Record}
 use Rattle.table.specs.declared.Table.{Table}
@@ -19,26 +19,26 @@ stepped id r = ite (ℕ-discrete (r .id) id) (sent r) r
 unfoldable pub serve : ℕ → List Record → List Record
 serve id rs = map (stepped id) rs
 
--- The place of an id, or the count where no record has it.
-pub record IsPlaceOf (table : Table) (id r : ℕ) : Type 0 where
-  pub within : r ≤ table .count
-  pub there : r < table .count → List·Mem (record-at table r) (records-of table)
-  pub found : r < table .count → record-at table r .id ≡ id
-  pub absent : r ≡ table .count → HasId id (records-of table) → ⊥
-
 -- A table with just these records; they fit its 64 places.
 pub record HasRecords (rs : List Record) (table : Table) : Type 0 where
   pub records : records-of table ≡ rs
   pub count : table .count ≤ places
 
--- What putting a record in relies on: that a place is free.
-pub record CanPut (table : Table) : Type 0 where
-  pub room : table .count < places
-
--- What taking out or finding the record of an id relies on: that the count is right, ids rise, and the id is held.
-pub record CanChange (table : Table) (id : ℕ) : Type 0 where
+-- What finding an id by halving relies on: that the count is right, and ids rise, none above the largest.
+pub record CanSearch (table : Table) : Type 0 where
   pub count : table .count ≤ places
   pub ascending : Ascending (records-of table)
+  pub small : (r : Record) → List·Mem r (records-of table) → r .id ≤ largest-id
+
+-- What putting a record in relies on besides: that a place is free and no record has its id ..
+pub record CanPut (table : Table) (id : ℕ) : Type 0 where
+  pub can-search : CanSearch table
+  pub room : table .count < places
+  pub new : HasId id (records-of table) → ⊥
+
+-- .. and what taking one out does: that a record has the id.
+pub record CanTakeOut (table : Table) (id : ℕ) : Type 0 where
+  pub can-search : CanSearch table
   pub held : HasId id (records-of table)
 
 -- What reading a column relies on.

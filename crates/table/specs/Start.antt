@@ -4,7 +4,7 @@ use mathlib.Core.List.{List, List·Mem}
 use Prim.Native.Nat.{ℕ, _+_, _-_, _≤_, _<_}
 use lib.ListN.{getD}
 use Rattle.basics.specs.OneTo.{OneTo}
-use Rattle.basics.specs.Limits.{key-span}
+use Rattle.basics.specs.Limits.{key-span, most-slots}
 use Rattle.rules.specs.Streams.{Stream, due}
 use Rattle.rules.specs.Demand.{future, ceil}
 use Rattle.table.specs.Table.{streams-of}
@@ -20,7 +20,7 @@ pub record IsLeastOf (values : List ℕ) (n r : ℕ) : Type 0 where
 
 -- What counting rounds up from `needed` relies on: that many are not too many.
 pub record CanCountRounds (needed packets b : ℕ) : Type 0 where
-  pub slots : OneTo 64 b
+  pub slots : OneTo most-slots b
   pub few : packets ≤ 1_000_000
   pub low : needed ≤ ceil packets b
 

@@ -1,28 +1,38 @@
 // The table's changes: a stream put in, one taken out, and one served.
 ghost use mathlib.Core.Path.{_≡_};
 ghost use Prim.Native.Nat.{_≤_};
+ghost use Rattle.basics.specs.Decides.{Decides};
+ghost use Rattle.basics.specs.Limits.{longest-period, largest-key};
 ghost use Rattle.table.specs.Table.{records-of};
-ghost use Rattle.table.specs.Changes.{put-by-id, without-id, sent};
-ghost use Rattle.table.specs.Needs.{IsPlaceOf, HasRecords, CanPut, CanChange};
-ghost use Rattle.table.specs.Places.{IsPlaceBefore, CanOpen, opened, CanClose, closed};
+ghost use Rattle.table.specs.Changes.{HasId, put-by-id, without-id, sent};
+ghost use Rattle.table.specs.Needs.{HasRecords, CanSearch, CanPut, CanTakeOut};
+ghost use Rattle.table.specs.Places.{IsPlaceFor, CanOpen, opened, CanClose, closed};
 use super::Record;
 use super::Table;
+use super::ids_in_range;
+use super::no_record;
 
-// The place of an id, or the count where no stream has it.
-pub fn place_of_in_range(table: Table, id: u32) -> usize
-    requires { ⌜ table .count ≤ 64 ⌝ }
-    ensures { λ r. ⌜ IsPlaceOf table id r ⌝ }
+// The place for an id, found by halving.
+fn place_for_in_range(table: Table, id: u32) -> usize
+    requires { ⌜ CanSearch table ⌝ }
+    ensures { λ r. ⌜ IsPlaceFor table id r ⌝ }
 {
-    let streams = table.streams;
-    let mut i: usize = 0;
-    while i < table.count {
-        let stream = streams[i];
-        if stream.id == id {
-            return i;
-        }
-        i += 1;
+    let ids = ids_in_range(table);
+    basics::place_among_rising(&ids, id)
+}
+
+// Whether a stream has the id.
+pub fn has_id_in_range(table: Table, id: u32) -> bool
+    requires { ⌜ CanSearch table ⌝ }
+    ensures { λ r. ⌜ Decides r (HasId id (records-of table)) ⌝ }
+{
+    let place = place_for_in_range(table, id);
+    if table.count <= place {
+        return false;
     }
-    table.count
+    let streams = table.streams;
+    let stream = streams[place];
+    stream.id == id
 }
 
 // The place falls free and the later streams move one place down.
@@ -38,12 +48,7 @@ fn closed_in_range(table: Table, place: usize) -> Table
         streams[i] = later;
         i += 1;
     }
-    streams[last] = Record {
-        id: 0,
-        period: 0,
-        deadline: 0,
-        release: 0,
-    };
+    streams[last] = no_record();
     Table {
         count: last,
         streams,
@@ -52,28 +57,11 @@ fn closed_in_range(table: Table, place: usize) -> Table
 
 // The stream of an id taken out; the place that falls free gets zeros.
 pub fn take_out_in_range(table: Table, id: u32) -> Table
-    requires { ⌜ CanChange table id ⌝ }
+    requires { ⌜ CanTakeOut table id ⌝ }
     ensures { λ r. ⌜ HasRecords (without-id id (records-of table)) r ⌝ }
 {
-    let place = place_of_in_range(table, id);
+    let place = place_for_in_range(table, id);
     closed_in_range(table, place)
-}
-
-// The first place with a greater id, or the count.
-fn place_before_in_range(table: Table, id: u32) -> usize
-    requires { ⌜ table .count ≤ 64 ⌝ }
-    ensures { λ r. ⌜ IsPlaceBefore table id r ⌝ }
-{
-    let streams = table.streams;
-    let mut i: usize = 0;
-    while i < table.count {
-        let stream = streams[i];
-        if id < stream.id {
-            return i;
-        }
-        i += 1;
-    }
-    table.count
 }
 
 // The streams from the place on move one place up and the stream goes there.
@@ -97,22 +85,19 @@ fn opened_in_range(table: Table, place: usize, stream: Record) -> Table
 
 // A stream put at its place by ascending id.
 pub fn put_in_range(table: Table, stream: Record) -> Table
-    requires { ⌜ CanPut table ⌝ }
+    requires { ⌜ CanPut table (stream .id) ⌝ }
     ensures { λ r. ⌜ HasRecords (put-by-id stream (records-of table)) r ⌝ }
 {
-    let place = place_before_in_range(table, stream.id);
+    let place = place_for_in_range(table, stream.id);
     opened_in_range(table, place, stream)
 }
 
 // A stream at its next packet.
 pub fn at_next_packet_in_range(stream: Record) -> Record
-    requires { ⌜ (stream .release ≤ 2_000_000_000) × (stream .period ≤ 240) ⌝ }
+    requires { ⌜ (stream .release ≤ largest-key) × (stream .period ≤ longest-period) ⌝ }
     ensures { λ r. ⌜ r ≡ sent stream ⌝ }
 {
-    Record {
-        id: stream.id,
-        period: stream.period,
-        deadline: stream.deadline,
-        release: stream.release + stream.period,
-    }
+    let mut next = stream;
+    next.release = stream.release + stream.period;
+    next
 }

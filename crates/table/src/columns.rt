@@ -1,6 +1,7 @@
 // Columns of a table: the periods, deadlines, due times or releases of its streams.
 ghost use mathlib.Core.Path.{_≡_};
 ghost use Prim.Native.Nat.{_≤_};
+ghost use Rattle.basics.specs.Limits.{largest-key};
 ghost use Rattle.table.specs.Table.{IsColumn, stream-of, value-of};
 ghost use Rattle.table.specs.Needs.{CanRead};
 use super::Column;
@@ -9,7 +10,7 @@ use super::Table;
 
 // The value of a column of one stream.
 fn value_in_range(stream: Record, column: Column) -> u32
-    requires { ⌜ value-of column (stream-of stream) ≤ 2_000_000_000 ⌝ }
+    requires { ⌜ value-of column (stream-of stream) ≤ largest-key ⌝ }
     ensures { λ r. ⌜ r ≡ value-of column (stream-of stream) ⌝ }
 {
     match column {

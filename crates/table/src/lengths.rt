@@ -2,6 +2,7 @@
 // so that eight streams fit a vector register.
 ghost use mathlib.Core.Path.{_≡_};
 ghost use Prim.Native.Nat.{_≤_};
+ghost use Rattle.basics.specs.Limits.{longest-period};
 ghost use Rattle.table.specs.Table.{streams-of};
 ghost use Rattle.table.specs.Lengths.{CanNarrow, IsNarrow, CanAdvance, IsAdvance, CanTestDemand, IsBusyLength, hits, after-hit};
 ghost use Rattle.table.specs.Sums.{CanCarry, AreSums};
@@ -36,7 +37,7 @@ fn hit(time: u16, t: u16) -> u16
 
 // The first due time of one stream that is not yet counted once t is.
 fn time_after(time: u16, t: u16, period: u16) -> u16
-    requires { ⌜ (t ≤ 60_000) × (period ≤ 240) ⌝ }
+    requires { ⌜ (t ≤ 60_000) × (period ≤ longest-period) ⌝ }
     ensures { λ r. ⌜ r ≡ after-hit time t period ⌝ }
 {
     if time != t {

@@ -5,7 +5,9 @@ use super::lengths::advance;
 use super::lengths::narrow_column_in_range;
 use basics::wide;
 ghost use mathlib.Core.Path.{_≡_};
-ghost use Prim.Native.Nat.{_≤_, min};
+ghost use Prim.Native.Nat.{min};
+ghost use Rattle.basics.specs.Limits.{places};
+ghost use Rattle.basics.specs.OneTo.{OneTo};
 ghost use Rattle.rules.specs.Demand.{ceil};
 ghost use Rattle.table.specs.Table.{streams-of};
 ghost use Rattle.table.specs.Lengths.{CanFindStart, IsNextStart};
@@ -22,7 +24,7 @@ fn lesser(x: u32, y: u32) -> u32
 
 // The least of the first values.
 fn least_of(values: [u16; 64], count: usize) -> u32
-    requires { ⌜ (1 ≤ count) × (count ≤ 64) ⌝ }
+    requires { ⌜ OneTo places count ⌝ }
     ensures { λ r. ⌜ IsLeastOf values count r ⌝ }
 {
     let mut least = wide(values[0]);

@@ -45,21 +45,21 @@ choose-sound-requires c κs = choosable c
 
 write-ids-in-range-requires : tie.Need-write-ids-in-range-requires
 write-ids-in-range-requires c κs =
-    let passed = c .before .before .before in
-    let few = c .before .before .choose-sound .ensures .0 .few in
+    let passed = c .before .before .before .before in
+    let few = c .before .before .before .choose-sound .ensures .0 .few in
     (omega (arith, few, choosable passed .sound .content-sound .in-range .setting .slots), omega (arith, few, long passed))
 
 serve-sound-requires : tie.Need-serve-sound-requires
 serve-sound-requires c κs =
-    let chose = c .before .before .before .before .before in
+    let chose = c .before .before .before .before .before .before in
     let passed = chose .before in
     let tested = passed .before .before in
     can-serve-all (tested .sound-start .ensures) (now (tested .before .before .args .buffer)) (answered (passed .before)) (passed .if1 .left)
     (chose .choose-sound .ensures)
 
-cast-t13 : tie.Need-cast-t13
-cast-t13 c =
-    let chose = c .before .before .before .before .before .before .before in
+cast-t14 : tie.Need-cast-t14
+cast-t14 c =
+    let chose = c .before .before .before .before .before .before .before .before in
     omega (arith, chose .choose-sound .ensures .0 .few, choosable (chose .before) .sound .content-sound .in-range .setting .slots)
 
 same-length : tie.Need-same-length
@@ -68,7 +68,7 @@ same-length c = search needs
 returns-2 : tie.Need-returns-2
 returns-2 c =
     let wrote = c .before .before .before .before in
-    let chose = wrote .before .before .before in
+    let chose = wrote .before .before .before .before in
     let passed = chose .before in
     let tested = passed .before .before in
     round-held (tested .sound-start .ensures) (now (tested .before .before .args .buffer)) (answered (passed .before)) (passed .if1 .left)
@@ -84,6 +84,6 @@ round-spec =
     choose-sound-requires
     write-ids-in-range-requires
     serve-sound-requires
-    cast-t13
+    cast-t14
     same-length
     returns-2)

@@ -1,14 +1,16 @@
 -- What the parts of add rest on: what is known where a refusal is passed, and the planner with the offered stream.
 use mathlib.Core.Path.{_≡_, sym, subst, subst⁻¹, _∙_}
 use mathlib.Core.Logic.{Dec·and, Dec·not-not}
-use mathlib.Core.List.{List, _++_}
+use mathlib.Core.List.{List, _∷_, _++_}
 use Prim.Native.Nat.{ℕ, _+_, _≤_, _<_}
 use native.Mathlib.Nat.{lt-irrefl}
 use native.Mathlib.Decide.{decLe, decDvd}
 use native.Mathlib.Omega.{arith}
 use lib.ListN.{length}
 use Rattle.basics.specs.Refusals.{Refusal, answer-of}
-use Rattle.basics.specs.Facts.Refusals.{answer-later, answer-zero, answer-after, answer-append, zero-before, AllPass, AllNumbered, zero-all-pass}
+use Rattle.basics.specs.Facts.Refusals.{answer-later, answer-zero, answer-after, answer-append, AllPass, AllNumbered, zero-all-pass}
+use Rattle.basics.specs.Limits.{places, longest-period, furthest-release, largest-id}
+use Rattle.basics.specs.OneTo.{decide-one-to}
 use Rattle.rules.specs.Demand.{DemandRule, StartRule}
 use Rattle.rules.specs.Decide.{decide-demand-rule, decide-start-rule}
 use Rattle.table.specs.Table.{as-streams, streams-of}
@@ -23,6 +25,7 @@ use Rattle.queue.specs.declared.Queue.{Queue}
 use Rattle.planner.specs.Content.{Content, content, now-of, slots-of, streams-in}
 use Rattle.planner.specs.Sound.{entry-of, Sound}
 use Rattle.planner.specs.Decide.{decide-sound}
+use Rattle.planner.specs.Facts.Sound.{can-search}
 use Rattle.planner.specs.Facts.Open.{NumbersInRange, range-numbers}
 use Rattle.basics.specs.Facts.OneTo.{in-limit}
 use Rattle.planner.specs.declared.Offer.{Offer}
@@ -44,26 +47,12 @@ module _ {p : Planner} (sound : Sound p) (long : length (p .table .streams) ≡ 
   sound-count = records-count (p .table) (omega (arith, long, sound .count))
 
   -- the test for 8
-  pub is-full : p .table .count ≡ 64 → 64 ≤ length (content p .table)
+  pub is-full : p .table .count ≡ places → places ≤ length (content p .table)
   is-full same = omega (arith, sound-count, same)
 
   -- 8 does not apply where the count is not 64: fewer than 64 records are held
-  pub has-room : (p .table .count ≡ 64 → ⊥) → 64 ≤ length (content p .table) → ⊥
+  pub has-room : (p .table .count ≡ places → ⊥) → places ≤ length (content p .table) → ⊥
   has-room differs many = differs (omega (arith, sound-count, sound .count, many))
-
--- the tests for 11, which add nothing to the start
-module _ (h : Content) (start : ℕ) where
-  -- an S at L or before is not within now to now + 239, so that 11 applies ..
-  pub too-early : start ≤ h .last → ((now-of h ≤ start) × (start ≤ now-of h + 239)) → ⊥
-  too-early early range = lt-irrefl start (omega (arith, early, range .0))
-
-  -- .. nor is one after L + 240 ..
-  pub too-late : h .last + 240 < start → ((now-of h ≤ start) × (start ≤ now-of h + 239)) → ⊥
-  too-late late range = lt-irrefl start (omega (arith, late, range .1))
-
-  -- .. and every S from L + 1 to L + 240 is
-  pub near-now : h .last < start → start ≤ h .last + 240 → (now-of h ≤ start) × (start ≤ now-of h + 239)
-  near-now after soon = (omega arith, omega arith)
 
 module _ (h : Content) (o : Offer) where
   -- none of 6 to 11 applies to an offer that is well formed ..
@@ -74,7 +63,7 @@ module _ (h : Content) (o : Offer) where
     (
       formed .new,
       (
-        λ many. lt-irrefl 64 (omega (arith, formed .place-free, many)),
+        λ many. lt-irrefl places (omega (arith, formed .place-free, many)),
         (λ bad. bad (formed .period-range, formed .divides), (λ bad. bad (formed .deadline-range), (λ bad. bad (formed .start-range), tt))),
       ),
     ),
@@ -84,18 +73,18 @@ module _ (h : Content) (o : Offer) where
   passes-offer : AllPass (offer-refusals h o) → IsWellFormed h o
   unfolding AllPass
   passes-offer pass =
-      let period-in = Dec·not-not (Dec·and (Dec·and (decLe 1 (o .period)) (decLe (o .period) 240)) (decDvd (o .period) (h .setting .frame))) .0 (pass .1 .1 .1 .0) in
+      let period-in = Dec·not-not (Dec·and (decide-one-to longest-period (o .period)) (decDvd (o .period) (h .setting .frame))) .0 (pass .1 .1 .1 .0) in
       record {
-        id = in-limit 32767 (o .id) (pass .0);
+        id = in-limit largest-id (o .id) (pass .0);
         new = pass .1 .0;
         place-free = not-full (length (h .table)) (pass .1 .1 .0);
         period-range = period-in .0;
         divides = period-in .1;
         deadline-range = in-limit (o .period) (o .deadline) (pass .1 .1 .1 .1 .0);
-        start-range = Dec·not-not (Dec·and (decLe (now-of h) (o .start)) (decLe (o .start) (now-of h + 239))) .0 (pass .1 .1 .1 .1 .1 .0);
+        start-range = Dec·not-not (Dec·and (decLe (now-of h) (o .start)) (decLe (o .start) (now-of h + furthest-release))) .0 (pass .1 .1 .1 .1 .1 .0);
       }
     where
-      not-full : (n : ℕ) → (64 ≤ n → ⊥) → n < 64
+      not-full : (n : ℕ) → (places ≤ n → ⊥) → n < places
       not-full n room = omega arith
 
   -- where the answer of 6 to 11 is 0, the new stream is well formed and a place is free
@@ -121,34 +110,36 @@ module _ (p : Planner) (o : Offer) where
   abbrev rules : List Refusal
   rules = rule-refusals (added (content p) o)
 
-  -- add's answer is 5, or that of 6 to 11 where it is not 0, or that of 12 and 13
-  pub by-offer : Sound p → (answer-of offers ≡ 0 → ⊥) → answer-of offers ≡ answer-of (add-refusals p o)
-  by-offer sound some = sym (answer-later (unsound p) (offers ++ rules) (λ bad. bad sound) ∙ answer-append offers rules some)
+  -- where one of 5 to 11 applies, add's answer is theirs
+  pub by-offer : (answer-of (unsound p ∷ offers) ≡ 0 → ⊥) → answer-of (unsound p ∷ offers) ≡ answer-of (add-refusals p o)
+  by-offer some = sym (answer-append (unsound p ∷ offers) rules some)
 
-  -- where none of 5 to 11 applies, add's answer is that of 12 and 13
+  -- where the answer of 5 to 11 is 0, the planner is sound and the offer well formed: the two rules can be tested
+  pub can-test : answer-of (unsound p ∷ offers) ≡ 0 → CanTest p o
+  can-test zero =
+      let five = answer-zero (unsound p) offers (λ e. lt-irrefl 0 (omega (arith, e))) zero in
+      record { sound = Dec·not-not (decide-sound p) .0 (five .0); formed = offer-passed (content p) o (five .1) }
+
+  -- where none of 5 to 11 applies, add's answer is that of 12 and 13 ..
   pub by-rules : CanTest p o → answer-of rules ≡ answer-of (add-refusals p o)
   by-rules can =
       sym (answer-later (unsound p) (offers ++ rules) (λ bad. bad (can .sound)) ∙ answer-after offers rules (offer-passes (content p) o (can .formed)))
 
-  -- where it is 0 the stream can be taken in
-  pub can-add : answer-of (add-refusals p o) ≡ 0 → CanAdd p o
-  can-add zero =
-      let five = answer-zero (unsound p) (offers ++ rules) (λ e. lt-irrefl 0 (omega (arith, e))) zero in
-      let can : CanTest p o =
-      record { sound = Dec·not-not (decide-sound p) .0 (five .0); formed = offer-passed (content p) o (zero-before offers rules (five .1)) } in
-      let kept = rules-passed (added (content p) o) (by-rules can ∙ zero) in
-      record { can-test = can; demand-rule = kept .0; start-rule = kept .1 }
+  -- .. and where that is 0 the stream can be taken in
+  pub can-add : CanTest p o → answer-of rules ≡ 0 → CanAdd p o
+  can-add can zero = let kept = rules-passed (added (content p) o) zero in record { can-test = can; demand-rule = kept .0; start-rule = kept .1 }
 
 module _ {p : Planner} {o : Offer} (can : CanTest p o) where
   -- the table has room ..
-  pub can-put : length (p .table .streams) ≡ 64 → CanPut (p .table)
-  can-put long = record { room = omega (arith, sound-count (can .sound) long, can .formed .place-free) }
+  pub can-put : length (p .table .streams) ≡ 64 → CanPut (p .table) (o .id)
+  can-put long =
+      record { can-search = can-search (can .sound); room = omega (arith, sound-count (can .sound) long, can .formed .place-free); new = can .formed .new }
 
   -- .. and so has the queue
   pub can-file : CanInsert (p .queue) (entry-of (offered o))
   can-file =
-      can-insert p (can .sound) (offered o) (can .formed .id) (can .formed .new) (can .formed .place-free) (can .formed .deadline-range .0)
-      (omega (arith, can .formed .deadline-range, can .formed .period-range)) (can .formed .start-range .0) (can .formed .start-range .1)
+      can-insert p (can .sound) (offered o) (can .formed .id) (can .formed .new) (can .formed .place-free)
+      (can .formed .deadline-range .0, omega (arith, can .formed .deadline-range, can .formed .period-range)) (can .formed .start-range)
 
   module _ {table : Table} (has : HasRecords (added (content p) o .table) table) where
     -- the planner as it would be with the table, but for its queue

@@ -9,6 +9,7 @@ use lib.ListN.{length}
 use lib.Seq.{take-nil}
 use Rattle.basics.specs.Refusals.{Refusal, answer-of, FirstOf}
 use Rattle.basics.specs.Facts.Refusals.{answer-is-first, answer-first, answer-later, answer-zero, answer-other, AllPass, answer-after}
+use Rattle.basics.specs.Limits.{last-start}
 use Rattle.rules.specs.Streams.{Stream}
 use Rattle.rules.specs.Demand.{future}
 use Rattle.rules.specs.Slots.{riders, in-order, slots}
@@ -64,12 +65,12 @@ module _ {p : Planner} {before after : List ℕ} {r : Rounded} (is : IsRound p b
   round-keeps-sound = sound-either-way (r .answer) p (r .planner) (λ nonzero. refused-round nonzero .planner) (λ zero. success-round zero .planner .sound)
 
 -- the start of a sound planner tells whether it starts late
-pub starts-late-iff : (p : Planner) → Sound p → (s : ℕ) → IsStart (content p) s → StartsLate p ↔ (1_000_000_000 < s)
+pub starts-late-iff : (p : Planner) → Sound p → (s : ℕ) → IsStart (content p) s → StartsLate p ↔ (last-start < s)
 starts-late-iff p sound s start = (
   λ late. late sound s start,
   λ late _ x other.
       let h = content p in
-      subst (λ (y : ℕ). 1_000_000_000 < y) (lazy-unique (slots-of h) (cap-of h) (streams-in h) s x start other) late,
+      subst (λ (y : ℕ). last-start < y) (lazy-unique (slots-of h) (cap-of h) (streams-in h) s x start other) late,
 )
 
 module _ (p : Planner) (buffer : List ℕ) where
@@ -110,21 +111,21 @@ module _ (p : Planner) (buffer : List ℕ) where
         (λ fails. fails sound, (λ short. omega arith, tt))
 
     -- so a round is refused with 17 exactly if the start is after the last one ..
-    pub seventeen-exactly : (answer-of (round-refusals p buffer) ≡ 17) ↔ (1_000_000_000 < s)
+    pub seventeen-exactly : (answer-of (round-refusals p buffer) ≡ 17) ↔ (last-start < s)
     seventeen-exactly = (
       λ given. starts-late-iff p sound s start .0 (seventeen-is-late given),
       λ late. only-17-left ∙ answer-first (late-start p) [] (starts-late-iff p sound s start .1 late),
     )
 
     -- .. and held exactly if not
-    pub held-exactly : (answer-of (round-refusals p buffer) ≡ 0) ↔ (s ≤ 1_000_000_000)
+    pub held-exactly : (answer-of (round-refusals p buffer) ≡ 0) ↔ (s ≤ last-start)
     unfolding answer-of
     held-exactly = (
       λ none. in-time (λ late. held-is-not-late none (starts-late-iff p sound s start .1 late)),
       λ early. only-17-left ∙ answer-later (late-start p) [] (λ late. let after-the-last = starts-late-iff p sound s start .0 late in omega arith),
     )
       where
-        in-time : (1_000_000_000 < s → ⊥) → s ≤ 1_000_000_000
+        in-time : (last-start < s → ⊥) → s ≤ last-start
         in-time not-late = omega arith
 
 module _ (h : Content) (empty : h .table ≡ []) where

@@ -10,12 +10,13 @@ use Rattle.basics.specs.Facts.Refusals.{answer-zero}
 use Rattle.table.specs.Table.{records-of}
 use Rattle.table.specs.declared.Record.{Record}
 use Rattle.table.specs.Changes.{HasId, decide-id, without-id}
-use Rattle.table.specs.Needs.{HasRecords, CanChange}
+use Rattle.table.specs.Needs.{HasRecords, CanTakeOut}
 use Rattle.table.specs.declared.Table.{Table}
 use Rattle.queue.specs.Interface.{Entry, without, entries, HasEntries}
 use Rattle.queue.specs.declared.Queue.{Queue}
 use Rattle.planner.specs.Content.{Content, content, with-table, with-last}
 use Rattle.planner.specs.Sound.{ContentSound, Files, Sound}
+use Rattle.planner.specs.Facts.Sound.{can-search}
 use Rattle.planner.specs.Decide.{decide-sound}
 use Rattle.planner.specs.AddRemove.{unsound, not-held, remove-refusals, removed, IsSoundWith, IsChange}
 use Rattle.planner.specs.Facts.Kept.{removed-sound}
@@ -59,8 +60,8 @@ remove-passed p id none =
 
 module _ {p : Planner} (sound : Sound p) (id : ℕ) where
   -- the record of an id that a sound planner holds can be taken out of its table
-  pub can-take-out : HasId id (content p .table) → CanChange (p .table) id
-  can-take-out held = record { count = sound .count; ascending = sound .content-sound .in-range .records .ascending; held = held }
+  pub can-take-out : HasId id (content p .table) → CanTakeOut (p .table) id
+  can-take-out held = record { can-search = can-search sound; held = held }
 
   -- the planner without the stream
   pub removed-with : {table : Table} → HasRecords (without-id id (records-of (p .table))) table

@@ -12,6 +12,7 @@ use lib.ListN.{length, take, getD, set, replicate, length-set, length-append, le
 use lib.Seq.{take-suc-set, getD-set-same, getD-set-other}
 use Rattle.basics.specs.Facts.Members.{getD-mem}
 use Rattle.basics.specs.Places.{Rises, IsPlaceAmong}
+use Rattle.basics.specs.Limits.{most-slots}
 use Rattle.table.specs.Table.{records-of, record-at}
 use Rattle.table.specs.Facts.Table.{record-at-mem}
 use Rattle.table.specs.Changes.{HasId, Ascending}
@@ -28,7 +29,7 @@ use Rattle.queue.specs.declared.Queue.{Queue}
 use Rattle.queue.specs.declared.Placed.{Placed}
 use Rattle.planner.specs.Content.{content, slots-of}
 use Rattle.planner.specs.Sound.{Sound}
-use Rattle.planner.specs.Facts.Sound.{content-table}
+use Rattle.planner.specs.Facts.Sound.{content-table, can-search}
 use Rattle.planner.specs.Round.{ids-at}
 use Rattle.planner.specs.Facts.SlotWalk.{released-ids, slots-ids, one-more-taken, one-more-skipped, enough, all-seen}
 use Rattle.planner.specs.Facts.Files.{files-length, files-filed}
@@ -43,25 +44,24 @@ below a b le other = omega arith
 -- after i entries: the released ones among them have been taken, each beside its row and its place
 pub record Visited (queue : Queue) (table : Table) (b s i : ℕ) (chosen : Chosen) : Type 0 where
   pub within : i ≤ table .count
-  pub ids : take (chosen .n) (chosen .ids) ≡ released-ids s (take i (entries queue))
+  pub ids : take (chosen .n) (chosen .placed .ids) ≡ released-ids s (take i (entries queue))
   pub n : chosen .n ≡ length (released-ids s (take i (entries queue)))
   pub room : chosen .n ≤ b
   pub found : AreFound table queue chosen
-  pub long-ids : length (chosen .ids) ≡ 64
+  pub long-ids : length (chosen .placed .ids) ≡ 64
   pub long-rows : length (chosen .rows) ≡ 64
-  pub long-places : length (chosen .places) ≡ 64
+  pub long-places : length (chosen .placed .places) ≡ 64
 
 -- nothing chosen yet
 abbrev pub none-chosen : Chosen
-none-chosen = record { ids = replicate 64 0; rows = replicate 64 0; places = replicate 64 0; n = 0 }
+none-chosen = record { placed = record { ids = replicate 64 0; places = replicate 64 0 }; rows = replicate 64 0; n = 0 }
 
 -- an id chosen, with its row and its place
 abbrev pub with-chosen : Chosen → ℕ → ℕ → ℕ → Chosen
 with-chosen chosen id row place =
     record {
-      ids = set (chosen .ids) (chosen .n) id;
+      placed = record { ids = set (chosen .placed .ids) (chosen .n) id; places = set (chosen .placed .places) (chosen .n) place };
       rows = set (chosen .rows) (chosen .n) row;
-      places = set (chosen .places) (chosen .n) place;
       n = chosen .n + 1;
     }
 
@@ -89,8 +89,8 @@ module _ {p : Planner} {s : ℕ} (can : CanChoose p s) (long : length (p .table 
   can-walk = (sound .queue-sound, omega (arith, all-entries))
 
   -- the ids of the table rise over all 64 places, so that each can be looked up by halving
-  pub can-search : {ids : List ℕ} → IsIds (p .table) ids → Rises ids
-  can-search is-ids = ids-rise (p .table) (sound .count) holds ascending is-ids (λ x m. sound .content-sound .in-range .records .each x m .id .1)
+  pub can-look-up : {ids : List ℕ} → IsIds (p .table) ids → Rises ids
+  can-look-up = ids-rise (p .table) (can-search sound) holds
 
   -- before the first entry is met nothing is chosen
   pub none-visited : Visited (p .queue) (p .table) (slots-of (content p)) s 0 none-chosen
@@ -129,7 +129,7 @@ module _ {p : Planner} {s : ℕ} (can : CanChoose p s) (long : length (p .table 
         chosen-slots (all-seen s es i (slots-of (content p)) (omega (arith, all-entries)) few)
 
     -- while B are not chosen yet, fewer than 64 are
-    pub still-room : (chosen .n ≡ slots-of (content p) → ⊥) → chosen .n < 64
+    pub still-room : (chosen .n ≡ slots-of (content p) → ⊥) → chosen .n < most-slots
     still-room not-full = omega (arith, below (chosen .n) (slots-of (content p)) (visited .room) not-full, sound .content-sound .in-range .setting .slots .1)
 
     module _ (more : i < p .table .count) {order : Placed} (in-order : IsInOrder (p .queue) (p .table .count) order) where
@@ -154,7 +154,7 @@ module _ {p : Planner} {s : ℕ} (can : CanChoose p s) (long : length (p .table 
       module _ {ids : List ℕ} (is-ids : IsIds (p .table) ids) {row : ℕ} (is-row : IsPlaceAmong ids id row) where
         at-row : (row < p .table .count) × (record-at (p .table) row .id ≡ id)
         at-row =
-            id-row (p .table) (sound .count) holds ascending is-ids id row
+            id-row (p .table) (can-search sound) holds is-ids id row
             (subst⁻¹ (λ (n : ℕ). HasId n rs) same-id (files-filed es rs (sound .files) (entry .id) .0 ∣ (entry, entry-there, refl) ∣₁)) is-row
 
         -- the entry's release is that of the record in the row
@@ -171,7 +171,7 @@ module _ {p : Planner} {s : ℕ} (can : CanChoose p s) (long : length (p .table 
 
         -- the k-th one taken is found by its row and its place
         abbrev IsTakenAt : ℕ → Type 0
-        IsTakenAt k = IsFoundAt (p .table) (p .queue) (getD (taken .ids) k 0) (getD (taken .rows) k 0) (getD (taken .places) k 0)
+        IsTakenAt k = IsFoundAt (p .table) (p .queue) (getD (taken .placed .ids) k 0) (getD (taken .rows) k 0) (getD (taken .placed .places) k 0)
 
         -- while B are not chosen yet, an entry whose record is released by s is chosen, beside its row and its place
         pub one-more-taken-in : (chosen .n ≡ slots-of (content p) → ⊥) → record-at (p .table) row .release ≤ s
@@ -183,15 +183,15 @@ module _ {p : Planner} {s : ℕ} (can : CanChoose p s) (long : length (p .table 
             (record {
               within = omega arith;
               ids =
-                  ap (λ (k : ℕ). take k (set (chosen .ids) (chosen .n) id)) (add-one (chosen .n))
-                  ∙ take-suc-set (chosen .ids) (chosen .n) id (omega (arith, visited .long-ids))
+                  ap (λ (k : ℕ). take k (set (chosen .placed .ids) (chosen .n) id)) (add-one (chosen .n))
+                  ∙ take-suc-set (chosen .placed .ids) (chosen .n) id (omega (arith, visited .long-ids))
                   ∙ ap (λ (l : List ℕ). l ++ (id ∷ [])) (visited .ids) ∙ ap (λ (n : ℕ). released-ids s (take i es) ++ (n ∷ [])) same-id ∙ sym more-ids;
               n = rw (more-ids, length-append) (omega (arith, visited .n));
               room = omega (arith, below (chosen .n) (slots-of (content p)) (visited .room) not-full);
               found = λ k low. go k low (decLt k (chosen .n));
-              long-ids = length-set (chosen .ids) (chosen .n) id ∙ visited .long-ids;
+              long-ids = length-set (chosen .placed .ids) (chosen .n) id ∙ visited .long-ids;
               long-rows = length-set (chosen .rows) (chosen .n) row ∙ visited .long-rows;
-              long-places = length-set (chosen .places) (chosen .n) place ∙ visited .long-places;
+              long-places = length-set (chosen .placed .places) (chosen .n) place ∙ visited .long-places;
             })
           where
             three : (a b d a′ b′ d′ : ℕ) → a ≡ a′ → b ≡ b′ → d ≡ d′ → IsFoundAt (p .table) (p .queue) a′ b′ d′ → IsFoundAt (p .table) (p .queue) a b d
@@ -201,18 +201,18 @@ module _ {p : Planner} {s : ℕ} (can : CanChoose p s) (long : length (p .table 
             go k low (yes less) =
                 let other : k ≡ chosen .n → ⊥ = λ e. lt-irrefl k (omega (arith, e)) in
                 three _ _ _ _ _ _
-                (getD-set-other (chosen .ids) (chosen .n) k id 0 other)
+                (getD-set-other (chosen .placed .ids) (chosen .n) k id 0 other)
                 (getD-set-other (chosen .rows) (chosen .n) k row 0 other)
-                (getD-set-other (chosen .places) (chosen .n) k place 0 other)
+                (getD-set-other (chosen .placed .places) (chosen .n) k place 0 other)
                 (visited .found k less)
             go k low (no last) =
                 let same : k ≡ chosen .n = omega arith in
                 let inside = still-room not-full in
                 subst⁻¹ IsTakenAt same
                 (three _ _ _ _ _ _
-                (getD-set-same (chosen .ids) (chosen .n) id 0 (omega (arith, visited .long-ids)))
+                (getD-set-same (chosen .placed .ids) (chosen .n) id 0 (omega (arith, visited .long-ids)))
                 (getD-set-same (chosen .rows) (chosen .n) row 0 (omega (arith, visited .long-rows)))
-                (getD-set-same (chosen .places) (chosen .n) place 0 (omega (arith, visited .long-places)))
+                (getD-set-same (chosen .placed .places) (chosen .n) place 0 (omega (arith, visited .long-places)))
                 (record { in-table = at-row .0; row-id = at-row .1; in-queue = in-order .places i more }))
 
         -- an entry whose record is released after s is met and not chosen

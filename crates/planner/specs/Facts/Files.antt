@@ -9,6 +9,8 @@ use native.Mathlib.Nat.{le-antisymm, lt-irrefl}
 use native.Mathlib.Decide.{ℕ-discrete}
 use native.Mathlib.Omega.{arith}
 use lib.ListN.{length, length-map}
+use Rattle.basics.specs.Limits.{places, longest-period, furthest-release, largest-key, key-span, largest-id}
+use Rattle.basics.specs.OneTo.{OneTo}
 use Rattle.rules.specs.Facts.Lists.{no-longer}
 use Rattle.table.specs.Table.{due-of}
 use Rattle.table.specs.Changes.{HasId, Ascending, put-by-id, without-id, sent}
@@ -96,7 +98,7 @@ module _ (q : Queue) (sound : Interface.Sound q) (rs : List Record) (ascending :
       (rw (length-map rs entry-of) at (no-longer (map entry-of rs) (entries q) record-entries-differ (λ e m. files e .1 (in-entries rs e .0 m))))
 
 -- keys among 480 in a row are within the bounds
-pub within-bounds : (es : List Entry) (low : ℕ) → low + 479 ≤ 2_000_000_000 → ((e : Entry) → List·Mem e es → (low ≤ e .key) × (e .key ≤ low + 479))
+pub within-bounds : (es : List Entry) (low : ℕ) → low + key-span ≤ largest-key → ((e : Entry) → List·Mem e es → (low ≤ e .key) × (e .key ≤ low + key-span))
     → ((e : Entry) → List·Mem e es → e .release ≤ e .key) → InBounds es
 within-bounds es low early within released =
     record {
@@ -111,7 +113,7 @@ module _ (p : Planner) (sound : Sound p) where
   first = now-of (content p) + 1
 
   abbrev IsDueNear : Record → Type 0
-  IsDueNear s = (first ≤ due-of s) × (due-of s ≤ first + 479)
+  IsDueNear s = (first ≤ due-of s) × (due-of s ≤ first + key-span)
 
   held-near : (s : Record) → List·Mem s (content p .table) → IsDueNear s
   held-near s m =
@@ -121,9 +123,10 @@ module _ (p : Planner) (sound : Sound p) where
       (omega arith, omega (arith, r .period, r .deadline))
 
   -- no refusal applies to the insertion of a new record near now ..
-  pub can-insert : (x : Record) → (1 ≤ x .id) × (x .id ≤ 32767) → (HasId (x .id) (content p .table) → ⊥) → length (content p .table) < 64
-      → 1 ≤ x .deadline → x .deadline ≤ 240 → now-of (content p) ≤ x .release → x .release ≤ now-of (content p) + 239 → CanInsert (p .queue) (entry-of x)
-  can-insert x id-in new room some-deadline short-deadline from-now near =
+  pub can-insert : (x : Record) → OneTo largest-id (x .id) → (HasId (x .id) (content p .table) → ⊥) → length (content p .table) < places
+      → OneTo longest-period (x .deadline) → (now-of (content p) ≤ x .release) × (x .release ≤ now-of (content p) + furthest-release)
+      → CanInsert (p .queue) (entry-of x)
+  can-insert x id-in new room deadline-in near =
       let es = entries (p .queue) in
       let rs = content p .table in
       let in-range : InRange (content p) = sound .content-sound .in-range in
@@ -136,7 +139,7 @@ module _ (p : Planner) (sound : Sound p) where
         new = λ filed. new (files-filed es rs (sound .files) (x .id) .0 filed);
         bounds =
             within-bounds (put (entry-of x) es) first (omega (arith, in-range .last))
-            (files-within (put (entry-of x) es) (put-by-id x rs) files first (first + 479)
+            (files-within (put (entry-of x) es) (put-by-id x rs) files first (first + key-span)
             (put-all IsDueNear (λ s. ×-prop le-prop le-prop) x rs (omega arith, omega arith) held-near))
             (files-released (put (entry-of x) es) (put-by-id x rs) files);
       }

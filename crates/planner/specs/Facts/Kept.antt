@@ -9,6 +9,7 @@ use native.Mathlib.Nat.{le-trans}
 use native.Mathlib.Decide.{ℕ-discrete}
 use native.Mathlib.Omega.{arith}
 use lib.ListN.{length, length-map}
+use Rattle.basics.specs.Limits.{last-start, places, furthest-release}
 use Rattle.rules.specs.Streams.{Stream}
 use Rattle.rules.specs.Demand.{DemandRule, StartRule}
 use Rattle.rules.specs.Slots.{slots, next, passed, after-round}
@@ -66,11 +67,11 @@ sent-at-release h s r = go (decMem ℕ-discrete (r .id) (ids-at h s))
     go (no other) = refl
 
 -- what is in range stays so with another table ..
-with-table-in-range : {h : Content} {rs : List Record} → InRange h → length rs ≤ 64 → RecordsInRange (h .setting .frame) rs → InRange (with-table h rs)
+with-table-in-range : {h : Content} {rs : List Record} → InRange h → length rs ≤ places → RecordsInRange (h .setting .frame) rs → InRange (with-table h rs)
 with-table-in-range range = in-range-by-numbers (range-numbers range)
 
 -- .. and with another last start
-with-last-in-range : {h : Content} → InRange h → (s : ℕ) → s ≤ 1_000_000_000 → InRange (with-last h s)
+with-last-in-range : {h : Content} → InRange h → (s : ℕ) → s ≤ last-start → InRange (with-last h s)
 with-last-in-range range s by-last =
     record { setting = range .setting; last = by-last; at-most = range .at-most; records = range .records }
 
@@ -78,7 +79,8 @@ module _ (h : Content) (sound : ContentSound h) where
   -- Annex 4.8: the start is not before now
   pub start-from-now : (s : ℕ) → IsStart h s → now-of h ≤ s
   start-from-now s lazy =
-      fits-lazy (slots-of h) (cap-of h) (streams-in h) (sound .in-range .setting .slots .0) s lazy (now-of h) (omega (arith, sound .in-range .setting .gap)) (fits-now h sound)
+      fits-lazy (slots-of h) (cap-of h) (streams-in h) (sound .in-range .setting .slots .0) s lazy (now-of h) (omega (arith, sound .in-range .setting .gap))
+      (fits-now h sound)
 
   module _ (o : Offer) (formed : IsWellFormed h o) where
     -- with a well-formed stream the table is in range and near now ..
@@ -95,7 +97,8 @@ module _ (h : Content) (sound : ContentSound h) where
         due-after =
             put-all (λ (r : Record). now-of h < due-of r) (λ s. le-prop) x (h .table) (omega (arith, formed .start-range, formed .deadline-range))
             (sound .near .due-after);
-        released = put-all (λ (r : Record). r .release ≤ now-of h + 239) (λ s. le-prop) x (h .table) (formed .start-range .1) (sound .near .released);
+        released =
+            put-all (λ (r : Record). r .release ≤ now-of h + furthest-release) (λ s. le-prop) x (h .table) (formed .start-range .1) (sound .near .released);
       },
     )
       where
@@ -131,7 +134,7 @@ module _ (h : Content) (sound : ContentSound h) where
       seen-changed (sent-at h s) (passed (slots (slots-of h) s (streams-in h))) (h .table) (seen-sent-at h s)
 
   -- after a round at its start it is sound
-  pub rounded-sound : (s : ℕ) → IsStart h s → s ≤ 1_000_000_000 → ContentSound (rounded h s)
+  pub rounded-sound : (s : ℕ) → IsStart h s → s ≤ last-start → ContentSound (rounded h s)
   rounded-sound s lazy by-last =
       record {
         in-range =
@@ -149,7 +152,7 @@ module _ (h : Content) (sound : ContentSound h) where
           due-after = λ r m. kept .due-after (stream-of r) (held r m);
           released = λ r m.
               round-near (slots-of h) (now-of h) (streams-in h) (content-ready h sound) (sound .in-range .setting .slots .0) (cap-of h) s s lazy (omega arith)
-              239 (start-from-now s lazy) near-now (stream-of r) (held r m);
+              furthest-release (start-from-now s lazy) near-now (stream-of r) (held r m);
         };
         demand-rule = subst⁻¹ (DemandRule (slots-of h)) (rounded-streams s) (kept .demand-rule);
         start-rule = subst⁻¹ (StartRule (slots-of h) (s + 1)) (rounded-streams s) (kept .start-rule);
@@ -161,7 +164,7 @@ module _ (h : Content) (sound : ContentSound h) where
       held : (r : Record) → List·Mem r (rounded h s .table) → List·Mem (stream-of r) (after-round (slots-of h) s (streams-in h))
       held r m = subst (List·Mem (stream-of r)) (rounded-streams s) (seen m)
 
-      near-now : (x : Stream) → List·Mem x (streams-in h) → (x .period ≤ 239 + 1) × (x .release ≤ now-of h + 239)
+      near-now : (x : Stream) → List·Mem x (streams-in h) → (x .period ≤ furthest-release + 1) × (x .release ≤ now-of h + furthest-release)
       near-now =
-          all-streams (λ (x : Stream). (x .period ≤ 239 + 1) × (x .release ≤ now-of h + 239)) (λ x. ×-prop le-prop le-prop) (h .table)
+          all-streams (λ (x : Stream). (x .period ≤ furthest-release + 1) × (x .release ≤ now-of h + furthest-release)) (λ x. ×-prop le-prop le-prop) (h .table)
           (λ r m. (sound .in-range .records .each r m .period .1, sound .near .released r m))

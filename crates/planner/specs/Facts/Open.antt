@@ -10,6 +10,7 @@ use Rattle.basics.specs.Limits.{last-start, places, most-slots, longest-frame, 
 use Rattle.basics.specs.Facts.OneTo.{in-limit}
 use Rattle.basics.specs.Refusals.{answer-of, none, later}
 use Rattle.basics.specs.Facts.Refusals.{AllPass, AllNumbered, zero-all-pass, first-is-answer}
+use Rattle.basics.specs.Limits.{last-start, places, most-slots, longest-frame, longest-gap}
 use Rattle.rules.specs.Demand.{demand, future}
 use Rattle.table.specs.Range.{RecordsInRange}
 use Rattle.table.specs.Facts.Streams.{none-seen}
@@ -33,7 +34,8 @@ pub range-numbers : {h : Content} → InRange h → NumbersInRange (h .setting) 
 range-numbers range = record { setting = range .setting; last = range .last }
 
 -- with its numbers and its records in range, what a planner holds is
-pub in-range-by-numbers : {h : Content} → NumbersInRange (h .setting) (h .last) → length (h .table) ≤ places → RecordsInRange (frame-of h) (h .table) → InRange h
+pub in-range-by-numbers : {h : Content} → NumbersInRange (h .setting) (h .last) → length (h .table) ≤ places → RecordsInRange (frame-of h) (h .table)
+    → InRange h
 in-range-by-numbers numbers few records = record { setting = numbers .setting; last = numbers .last; at-most = few; records = records }
 
 opened-sound : (s : Setting) (t : ℕ) → NumbersInRange s t → ContentSound (opened s t)
@@ -66,7 +68,8 @@ fresh-is-sound s t numbers p is =
 
 -- Annex 3.12: the closed planner is not sound, since its B is 0
 pub closed-is-not-sound : (p : Planner) → IsFresh zeros 0 p → Sound p → ⊥
-closed-is-not-sound p fresh sound = lt-irrefl 0 (subst (λ (h : Content). 1 ≤ h .setting .slots) (fresh .holds) (sound .content-sound .in-range .setting .slots .0))
+closed-is-not-sound p fresh sound =
+    lt-irrefl 0 (subst (λ (h : Content). 1 ≤ h .setting .slots) (fresh .holds) (sound .content-sound .in-range .setting .slots .0))
 
 -- open answers 0 exactly if the numbers are in range
 pub open-exact : {s : Setting} {t : ℕ} → (answer-of (open-refusals s t) ≡ 0) ↔ NumbersInRange s t

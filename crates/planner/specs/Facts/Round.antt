@@ -7,6 +7,7 @@ use native.Mathlib.Omega.{arith}
 use lib.ListN.{length, take, drop}
 use Rattle.basics.specs.Refusals.{answer-of, none, here, later}
 use Rattle.basics.specs.Facts.Refusals.{answer-zero, first-is-answer}
+use Rattle.basics.specs.Limits.{last-start}
 use Rattle.planner.specs.Content.{content}
 use Rattle.planner.specs.Sound.{Sound}
 use Rattle.planner.specs.AddRemove.{unsound, IsSoundWith}
@@ -38,16 +39,16 @@ module _ {p : Planner} {start : ℕ} (test : IsSoundStart p start) where
         not-short short = lt-irrefl (length buffer) (omega (arith, short, long))
 
         -- with B places or more, and a start after 1,000,000,000, it answers 17 ..
-        pub too-late : 1_000_000_000 < start → 17 ≡ answer-of (round-refusals p buffer)
+        pub too-late : last-start < start → 17 ≡ answer-of (round-refusals p buffer)
         too-late late =
             first-is-answer (later passes-5 (later not-short
             (here (starts-late-iff p (test .sound some) start (test .start some) .1 late))))
 
         -- .. and with a start at 1,000,000,000 or before, 0
-        pub round-passes : start ≤ 1_000_000_000 → 0 ≡ answer-of (round-refusals p buffer)
+        pub round-passes : start ≤ last-start → 0 ≡ answer-of (round-refusals p buffer)
         round-passes early =
             first-is-answer (later passes-5 (later not-short
-            (later (λ late. lt-irrefl 1_000_000_000 (omega (arith, early, late (test .sound some) start (test .start some)))) none)))
+            (later (λ late. lt-irrefl last-start (omega (arith, early, late (test .sound some) start (test .start some)))) none)))
 
   module _ (buffer : List ℕ) {a : ℕ} (is : a ≡ answer-of (round-refusals p buffer)) where
     -- a refused round hands everything back
@@ -76,8 +77,8 @@ module _ {p : Planner} {start : ℕ} (test : IsSoundStart p start) where
       pub can-choose : CanChoose p start
       can-choose = record { sound = is-sound; start = test .start found }
 
-      early : start ≤ 1_000_000_000
-      early = above 1_000_000_000 start (λ late. held-is-not-late p buffer (sym is ∙ passed) (starts-late-iff p is-sound start (test .start found) .1 late))
+      early : start ≤ last-start
+      early = above last-start start (λ late. held-is-not-late p buffer (sym is ∙ passed) (starts-late-iff p is-sound start (test .start found) .1 late))
 
       -- where the answer is 0 the buffer has B places or more
       pub buffer-long : p .setting .slots ≤ length buffer
@@ -89,7 +90,7 @@ module _ {p : Planner} {start : ℕ} (test : IsSoundStart p start) where
         can-serve-all = record { can-choose = can-choose; by-last = early; is-chosen = is-chosen .0; are-found = is-chosen .1 }
 
         -- the round as it is held
-        pub round-held : {after : List ℕ} → after ≡ take (chosen .n) (chosen .ids) ++ drop (chosen .n) buffer
+        pub round-held : {after : List ℕ} → after ≡ take (chosen .n) (chosen .placed .ids) ++ drop (chosen .n) buffer
             → {q : Planner} → IsSoundWith (rounded (content p) start) q
             → IsRound p buffer after (record { answer = 0; planner = q; start = start; n = chosen .n })
         round-held written with-h =

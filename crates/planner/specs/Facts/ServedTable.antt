@@ -1,10 +1,10 @@
 -- A round's records served one after the other: the table in between, and that the queue can follow.
 use mathlib.Core.Path.{_≡_, refl, sym, ap, subst, subst⁻¹, _∙_}
-use mathlib.Core.Logic.{Or·elim, if-pos, if-neg, by-cases, ∥∥₁-elim}
+use mathlib.Core.Logic.{Or·elim, if-pos, if-neg, by-cases}
 use mathlib.Core.HLevel.{×-prop, ¬-prop, ⊥-prop}
-use mathlib.Core.List.{List, [], _∷_, _++_, List·Mem, List·Mem-prop, List·Nodup, nodup-cons, decMem, map, map-map, map-id, map-congr-left}
+use mathlib.Core.List.{List, [], _∷_, _++_, List·Mem, List·Nodup, nodup-cons, decMem, map, map-map, map-id, map-congr-left}
 use mathlib.Core.List.{Pairwise, Pairwise·of-map, Pairwise·map, Pairwise·filter, pairwise-append, Perm·pairwise, Perm·symm}
-use mathlib.Core.List.{mem-map, mem-map-of-mem, mem-cast, mem-cons-self, mem-cons-of-mem, mem-append-left, not-mem-nil, eq-or-mem-of-mem-cons}
+use mathlib.Core.List.{mem-cast, mem-cons-self, mem-cons-of-mem, mem-append-left, not-mem-nil, eq-or-mem-of-mem-cons}
 use Prim.Native.Nat.{ℕ, _+_, _≤_, _<_}
 use native.Mathlib.Bridge.{le-prop}
 use native.Mathlib.Numerals.{add-one}
@@ -12,7 +12,7 @@ use native.Mathlib.Decide.{ℕ-discrete}
 use native.Mathlib.Omega.{arith}
 use lib.ListN.{length, getD, take, drop, take-append-drop}
 use lib.Seq.{take-suc}
-use Rattle.basics.specs.Facts.Members.{getD-mem}
+use Rattle.basics.specs.Limits.{last-start, longest-period, key-span}
 use Rattle.rules.specs.Streams.{Stream, packet, IsTable}
 use Rattle.rules.specs.Demand.{DueAfter}
 use Rattle.rules.specs.Slots.{may-ride, riders, in-order, slots}
@@ -21,8 +21,8 @@ use Rattle.rules.specs.Facts.LazyStart.{lazy-fits}
 use Rattle.rules.specs.Facts.Slots.{IsChoice, in-order-perm}
 use Rattle.rules.specs.Facts.RoundKept.{served-iff, round-choice}
 use Rattle.table.specs.Table.{stream-of, due-of}
-use Rattle.table.specs.Changes.{HasId, Ascending, sent}
-use Rattle.table.specs.Facts.Streams.{numbers, seen}
+use Rattle.table.specs.Changes.{Ascending, sent}
+use Rattle.table.specs.Facts.Streams.{seen}
 use Rattle.table.specs.Needs.{stepped, serve}
 use Rattle.table.specs.declared.Record.{Record}
 use Rattle.queue.specs.Interface.{Entry, moved, InBounds}
@@ -109,7 +109,8 @@ module _ (h : Content) (sound : ContentSound h) (s : ℕ) (lazy : IsStart h s) w
   -- every unserved packet is due after the lazy start
   pub due-after-start : DueAfter s (streams-in h)
   due-after-start =
-      fits-due-after (slots-of h) s (streams-in h) (all-formed h sound) (lazy-fits (slots-of h) (cap-of h) (streams-in h) (sound .in-range .setting .slots .0) s lazy)
+      fits-due-after (slots-of h) s (streams-in h) (all-formed h sound)
+      (lazy-fits (slots-of h) (cap-of h) (streams-in h) (sound .in-range .setting .slots .0) s lazy)
 
   -- served one after the other, the records are those sent at once ..
   first-served : (k : ℕ) → served-to k ≡ map (sent-in (take k (ids-at h s))) (h .table)
@@ -120,31 +121,16 @@ module _ (h : Content) (sound : ContentSound h) (s : ℕ) (lazy : IsStart h s) w
   pub serve-all-slots : serve-all (ids-at h s) (h .table) ≡ rounded h s .table
   serve-all-slots = serve-all-sent (ids-at h s) (h .table) (slots-differ (slots-of h) s (streams-in h) table)
 
-  -- with the first k slots served ids still ascend ..
+  -- with the first k slots served ids still ascend
   pub served-ascending : (k : ℕ) → Ascending (served-to k)
   served-ascending k =
       let first = take k (ids-at h s) in
       subst⁻¹ Ascending (first-served k)
       (Pairwise·map (λ a b. le-prop) (sent-in first) (λ a b less. rw (sent-in-id first a, sent-in-id first b) less) (sound .in-range .records .ascending))
 
-  -- .. every slot's id is held ..
-  pub slot-held : (k j : ℕ) → j < length (ids-at h s) → HasId (getD (ids-at h s) j 0) (served-to k)
-  slot-held k j within = subst⁻¹ (HasId (getD (ids-at h s) j 0)) (first-served k) (subst⁻¹ (List·Mem (getD (ids-at h s) j 0)) same-ids held)
-    where
-      held : HasId (getD (ids-at h s) j 0) (h .table)
-      held =
-          subst (List·Mem (getD (ids-at h s) j 0)) (numbers (h .table))
-          (∥∥₁-elim (mem-map .0 (getD-mem (ids-at h s) j 0 within)) List·Mem-prop
-          (λ w. mem-cast (sym (w .2)) (mem-map-of-mem (λ (x : Stream). x .number) (choice .inside (w .0) (w .1)))))
-
-      same-ids : map (λ (r : Record). r .id) (map (sent-in (take k (ids-at h s))) (h .table)) ≡ map (λ (r : Record). r .id) (h .table)
-      same-ids =
-          map-map (λ (r : Record). r .id) (sent-in (take k (ids-at h s))) (h .table)
-          ∙ map-congr-left {l = h .table} (λ r m. sent-in-id (take k (ids-at h s)) r)
-
   -- A record is due at s + 1 to s + 480, and its period is at most 240.
   abbrev InBoundsAt : Record → Type 0
-  InBoundsAt r = ((s + 1 ≤ due-of r) × (due-of r ≤ s + 480)) × (r .period ≤ 240)
+  InBoundsAt r = ((s + 1 ≤ due-of r) × (due-of r ≤ s + 1 + key-span)) × (r .period ≤ longest-period)
 
   -- with the first k slots served each record is due at s + 1 to s + 480, and its period is at most 240
   pub served-bounds : (k : ℕ) (y : Record) → List·Mem y (served-to k) → InBoundsAt y
@@ -167,7 +153,7 @@ module _ (h : Content) (sound : ContentSound h) (s : ℕ) (lazy : IsStart h s) w
           ((omega arith, omega (arith, range .period, range .deadline, rides)), range .period .1))
           ((omega arith, omega (arith, range .period, range .deadline)), range .period .1)
 
-  module _ (by-last : s ≤ 1_000_000_000) (es : List Entry) (k : ℕ) (within : k < length (ids-at h s)) (files : Files es (served-to k)) (x : Record)
+  module _ (by-last : s ≤ last-start) (es : List Entry) (k : ℕ) (within : k < length (ids-at h s)) (files : Files es (served-to k)) (x : Record)
       (held : List·Mem x (served-to k)) (turn : x .id ≡ getD (ids-at h s) k 0)
     where
       abbrev moved-once : List Entry
@@ -184,6 +170,6 @@ module _ (h : Content) (sound : ContentSound h) (s : ℕ) (lazy : IsStart h s) w
       pub bounds-served : InBounds moved-once
       bounds-served =
           within-bounds moved-once (s + 1) (omega arith)
-          (files-within moved-once (served-to (k + 1)) files-served (s + 1) (s + 1 + 479)
+          (files-within moved-once (served-to (k + 1)) files-served (s + 1) (s + 1 + key-span)
           (λ y m. let b = served-bounds (k + 1) y m in (b .0 .0, omega (arith, b .0 .1))))
           (files-released moved-once (served-to (k + 1)) files-served)

@@ -9,23 +9,23 @@ use native.Mathlib.Numerals.{add-one}
 use native.Mathlib.Omega.{arith}
 use lib.ListN.{length, take, getD, set, length-set}
 use lib.Seq.{take-all, getD-take, getD-set-same, getD-set-other}
+use Rattle.basics.specs.Limits.{places, most-slots, longest-period, largest-key}
 use Rattle.table.specs.Table.{records-of, record-at, no-record}
 use Rattle.table.specs.Facts.Table.{record-at-mem}
-use Rattle.table.specs.Changes.{HasId, Ascending, sent}
-use Rattle.table.specs.Needs.{serve, IsPlaceOf, HasRecords, CanChange}
+use Rattle.table.specs.Changes.{Ascending, sent}
+use Rattle.table.specs.Needs.{serve, HasRecords}
 use Rattle.table.specs.Facts.Changes.{serve-at-place}
 use Rattle.table.specs.declared.Record.{Record}
 use Rattle.table.specs.declared.Table.{Table}
 use Rattle.queue.specs.Interface.{Entry, moved, InBounds, entries, HasEntries, CanMoveAll, moved-all}
 use Rattle.queue.specs.declared.Queue.{Queue}
-use Rattle.queue.specs.declared.Placed.{Placed}
 use Rattle.planner.specs.Content.{Content, content}
 use Rattle.planner.specs.Sound.{ContentSound, Files}
 use Rattle.planner.specs.AddRemove.{IsSoundWith}
 use Rattle.planner.specs.Round.{ids-at, rounded}
 use Rattle.planner.specs.Start.{IsStart}
 use Rattle.planner.specs.Facts.Kept.{rounded-sound}
-use Rattle.planner.specs.Facts.ServedTable.{serve-all, serve-next, serve-all-slots, served-ascending, slot-held, served-bounds, files-served}
+use Rattle.planner.specs.Facts.ServedTable.{serve-all, serve-next, serve-all-slots, served-ascending, served-bounds, files-served}
 use Rattle.planner.specs.Facts.ServedTable.{bounds-served}
 use Rattle.planner.specs.Facts.Changes.{is-sound-with}
 use Rattle.planner.specs.Needs.{CanServeAll, IsFoundAt, served-planner, table-of}
@@ -71,19 +71,19 @@ module _ {p : Planner} {s : ℕ} {chosen : Chosen} (can : CanServeAll p s chosen
       }
 
   -- at most 64 ids are chosen
-  pub chosen-below : chosen .n ≤ 64
+  pub chosen-below : chosen .n ≤ most-slots
   chosen-below = omega (arith, can .is-chosen .few, sound .in-range .setting .slots)
 
   -- the id at place k is that of slot k
-  turn : (k : ℕ) → k < chosen .n → getD (chosen .ids) k 0 ≡ getD (ids-at h s) k 0
-  turn k more = sym (getD-take (chosen .n) (chosen .ids) k 0 more) ∙ ap (λ (l : List ℕ). getD l k 0) (can .is-chosen .ids)
+  turn : (k : ℕ) → k < chosen .n → getD (chosen .placed .ids) k 0 ≡ getD (ids-at h s) k 0
+  turn k more = sym (getD-take (chosen .n) (chosen .placed .ids) k 0 more) ∙ ap (λ (l : List ℕ). getD l k 0) (can .is-chosen .ids)
 
   within : (k : ℕ) → k < chosen .n → k < length (ids-at h s)
   within k more = omega (arith, can .is-chosen .n)
 
   module _ {k : ℕ} (more : k < chosen .n) {streams : List Record} {periods : List ℕ} (serving : Serving p s k streams periods) where
     abbrev id : ℕ
-    id = getD (chosen .ids) k 0
+    id = getD (chosen .placed .ids) k 0
 
     abbrev row : ℕ
     row = getD (chosen .rows) k 0
@@ -101,25 +101,18 @@ module _ {p : Planner} {s : ℕ} {chosen : Chosen} (can : CanServeAll p s chosen
     abbrev pub periods-next : List ℕ
     periods-next = set periods k (x .period)
 
-    at : IsFoundAt (p .table) (p .queue) id row (getD (chosen .places) k 0)
+    at : IsFoundAt (p .table) (p .queue) id row (getD (chosen .placed .places) k 0)
     at = can .are-found k more
 
     holds : table .count ≤ length streams
     holds = omega (arith, serving .long, can .can-choose .sound .count)
 
     -- the row of each of the chosen is below 64
-    pub row-below : row < 64
+    pub row-below : row < places
     row-below = omega (arith, at .in-table, can .can-choose .sound .count)
 
-    can-change : CanChange table id
-    can-change =
-        record {
-          count = serving .served .count;
-          ascending = subst⁻¹ Ascending (serving .served .records) (served-ascending h sound s lazy k);
-          held =
-              subst⁻¹ (λ (rs : List Record). HasId id rs) (serving .served .records)
-              (subst⁻¹ (λ (n : ℕ). HasId n (first-passed h s k)) (turn k more) (slot-held h sound s lazy k k (within k more)));
-        }
+    ascending : Ascending (records-of table)
+    ascending = subst⁻¹ Ascending (serving .served .records) (served-ascending h sound s lazy k)
 
     member : List·Mem x (records-of table)
     member = record-at-mem table holds row (at .in-table)
@@ -127,32 +120,22 @@ module _ {p : Planner} {s : ℕ} {chosen : Chosen} (can : CanServeAll p s chosen
     its-number : x .id ≡ id
     its-number = serving .numbers row (at .in-table) ∙ at .row-id
 
-    at-place : IsPlaceOf table id row
-    at-place =
-        record {
-          within = omega (arith, at .in-table);
-          there = λ _. member;
-          found = λ _. its-number;
-          absent = λ none _. lt-irrefl row (omega (arith, none, at .in-table));
-        }
-
     there : List·Mem x (first-passed h s k)
     there = subst (λ (rs : List Record). List·Mem x rs) (serving .served .records) member
 
     -- its next release fits a number
-    pub can-send : (x .release ≤ 2_000_000_000) × (x .period ≤ 240)
+    pub can-send : (x .release ≤ largest-key) × (x .period ≤ longest-period)
     can-send = let b = served-bounds h sound s lazy k x there in (omega (arith, b, can .by-last), b .1)
 
     one-more : Serving p s (k + 1) rows-next periods-next
     one-more =
-        let now-served = serve-at-place table holds id can-change row at-place in
         record {
           served =
               record {
                 records =
-                    now-served .records ∙ ap (serve id) (serving .served .records)
+                    serve-at-place table holds ascending id row (at .in-table) its-number ∙ ap (serve id) (serving .served .records)
                     ∙ ap (λ (n : ℕ). serve n (first-passed h s k)) (turn k more) ∙ serve-next (ids-at h s) (h .table) k (within k more);
-                count = now-served .count;
+                count = serving .served .count;
               };
           numbers = λ j below. keeps j below (ℕ-discrete j row);
           noted = λ j below. notes j below (decLt j k);
@@ -186,12 +169,9 @@ module _ {p : Planner} {s : ℕ} {chosen : Chosen} (can : CanServeAll p s chosen
     one-more-served is = subst⁻¹ (λ (y : Record). Serving p s (k + 1) (set streams row y) periods-next) is one-more
 
   module _ {streams : List Record} {periods : List ℕ} (serving : Serving p s (chosen .n) streams periods) where
-    abbrev served : Placed
-    served = record { ids = chosen .ids; places = chosen .places }
-
     -- the entries with the first k moves done
     abbrev moved-to : ℕ → List Entry
-    moved-to k = moved-all (chosen .ids) periods k (entries (p .queue))
+    moved-to k = moved-all (chosen .placed .ids) periods k (entries (p .queue))
 
     -- one move more, by the record that is noted
     next-moved : (k : ℕ) → (more : k < chosen .n) → let x = serving .noted k more .0 in moved-to (suc k) ≡ moved (x .id) (x .period) (moved-to k)
@@ -213,7 +193,7 @@ module _ {p : Planner} {s : ℕ} {chosen : Chosen} (can : CanServeAll p s chosen
         (files-served h sound s lazy (can .by-last) (moved-to k) k (within k more) earlier x m number))
 
     -- when all of the chosen are served, their entries can be moved in the queue by the periods noted
-    pub can-move-all : CanMoveAll (p .queue) served periods (chosen .n)
+    pub can-move-all : CanMoveAll (p .queue) (chosen .placed) periods (chosen .n)
     can-move-all =
         record {
           sound = can .can-choose .sound .queue-sound;

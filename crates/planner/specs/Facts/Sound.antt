@@ -8,6 +8,7 @@ use Rattle.rules.specs.Facts.Sums.{well-formed-prop, start-rule-fits}
 use Rattle.rules.specs.Ready.{AllWellFormed, Fits, IsBusy, IsReady}
 use Rattle.rules.specs.Facts.Busy.{frame-busy-under-rule}
 use Rattle.rules.specs.Facts.LazyStart.{lazy-exists}
+use Rattle.table.specs.Needs.{CanSearch}
 use Rattle.table.specs.Facts.Streams.{all-streams}
 use Rattle.planner.specs.Content.{Content, content, slots-of, streams-in, now-of, cap-of}
 use Rattle.planner.specs.Sound.{ContentSound, Sound}
@@ -39,7 +40,8 @@ module _ (h : Content) (sound : ContentSound h) where
   pub frame-is-busy : IsBusy (slots-of h) (streams-in h) (h .setting .frame)
   frame-is-busy =
       frame-busy-under-rule (h .setting .frame) (sound .in-range .setting .frame .0) (slots-of h) (streams-in h) all-formed
-      (all-streams (λ (s : Stream). s .period ∣ h .setting .frame) (λ s. ∣-prop (s .period) (h .setting .frame)) (h .table) (λ r m. sound .in-range .records .each r m .divides))
+      (all-streams (λ (s : Stream). s .period ∣ h .setting .frame) (λ s. ∣-prop (s .period) (h .setting .frame)) (h .table)
+      (λ r m. sound .in-range .records .each r m .divides))
       (sound .demand-rule)
 
   -- what a sound planner holds has a start
@@ -50,3 +52,9 @@ module _ (h : Content) (sound : ContentSound h) where
 -- Annex 4.8: a sound planner has a lazy start
 pub sound-start : (p : Planner) → Sound p → (s : ℕ) × IsLazyStart (slots-of (content p)) (cap-of (content p)) (streams-in (content p)) s
 sound-start p sound = content-start (content p) (sound .content-sound)
+
+-- the ids of a sound planner's table can be searched by halving
+pub can-search : {p : Planner} → Sound p → CanSearch (p .table)
+can-search sound =
+    let records = sound .content-sound .in-range .records in
+    record { count = sound .count; ascending = records .ascending; small = λ r m. records .each r m .id .1 }

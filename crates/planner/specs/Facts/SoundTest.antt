@@ -9,9 +9,10 @@ use native.Mathlib.Omega.{arith}
 use lib.ListN.{length, length-take}
 use Rattle.basics.specs.Decides.{Decides}
 use Rattle.basics.specs.Facts.Decides.{same-as}
+use Rattle.basics.specs.Limits.{key-span}
 use Rattle.rules.specs.Demand.{IsLazyStart}
 use Rattle.table.specs.Table.{records-of, streams-of, record-at, due-of, IsColumn}
-use Rattle.table.specs.Needs.{CanRead}
+use Rattle.table.specs.Needs.{CanRead, CanSearch}
 use Rattle.table.specs.declared.Record.{Record}
 use Rattle.table.specs.Facts.Table.{record-at-mem, all-records}
 use Rattle.table.specs.Ids.{IsIds}
@@ -34,6 +35,9 @@ module _ {table : Table} (can : CanCompare table) (long : length (table .streams
   fits : table .count ≤ length (table .streams)
   fits = omega (arith, long, can .count)
 
+  can-search : CanSearch table
+  can-search = record { count = can .count; ascending = can .ascending; small = λ r m. can .ids r m .1 }
+
   held : (k : ℕ) → k < table .count → List·Mem (record-at table k) (records-of table)
   held = record-at-mem table fits
 
@@ -52,8 +56,8 @@ module _ {table : Table} (can : CanCompare table) (long : length (table .streams
     can-file =
         record {
           few = can .count;
-          rise = ids-rise table (can .count) fits (can .ascending) is-ids (λ s m. can .ids s m .1);
-          ascend = ids-ascend table (can .count) fits (can .ascending) is-ids;
+          rise = ids-rise table can-search fits is-ids;
+          ascend = ids-ascend table can-search fits is-ids;
           some = λ k below. omega (arith, is-ids .ids k below, can .ids (record-at table k) (held k below));
           small = λ k below. omega (arith, is-ids .ids k below, can .ids (record-at table k) (held k below));
           keys-in-range = λ k below. omega (arith, is-dues k below, can .dues (record-at table k) (held k below));
@@ -94,7 +98,7 @@ pub table-in-range : (p : Planner) → Sound p → TableInRange (p .setting .fra
 table-in-range p sound = record { count = sound .count; records = sound .content-sound .in-range .records; near = sound .content-sound .near }
 
 module _ (p : Planner) (numbers : NumbersInRange (p .setting) (p .last)) (range : TableInRange (p .setting .frame) (p .last + 1) (p .table)) where
-  late : (r : Record) → List·Mem r (records-of (p .table)) → due-of r ≤ p .last + 1 + 479
+  late : (r : Record) → List·Mem r (records-of (p .table)) → due-of r ≤ p .last + 1 + key-span
   late s m =
       let each = range .records .each s m in
       omega (arith, range .near .released s m, each .period, each .deadline)

@@ -9,6 +9,7 @@ use native.Mathlib.Nat.{lt-irrefl, mul-le-mul, ∣-prop}
 use native.Mathlib.Decide.{decLe}
 use native.Mathlib.Omega.{arith}
 use lib.ListN.{length, replicate}
+use Rattle.basics.specs.Limits.{most-slots, longest-frame}
 use Rattle.rules.specs.Streams.{Stream, WellFormed}
 use Rattle.rules.specs.Demand.{demand}
 use Rattle.rules.specs.Ready.{AllWellFormed, IsBusy}
@@ -39,8 +40,8 @@ module _ (b F : ℕ) (table : Table) (can : CanTestDemand b F table) where
   periods-divide = all-streams (λ s. s .period ∣ F) (λ s. ∣-prop (s .period) F) (records-of table) (λ r m. can .records r m .divides)
 
   -- slots times a length fits a u32
-  pub slots-fit : (t : ℕ) → t < F → b * (t + 1) ≤ 64 * 5040
-  slots-fit t low = let short : t + 1 ≤ 5040 = omega arith in mul-le-mul (can .slots .1) short
+  pub slots-fit : (t : ℕ) → t < F → b * (t + 1) ≤ most-slots * longest-frame
+  slots-fit t low = let short : t + 1 ≤ longest-frame = omega arith in mul-le-mul (can .slots .1) short
 
   -- a busy length up to which the demand rule holds
   settles : (T : ℕ) → IsBusy b (streams-of table) T → T ≤ F → ((u : ℕ) → 1 ≤ u → u ≤ T → demand (streams-of table) u ≤ b * u)

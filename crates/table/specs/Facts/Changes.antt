@@ -1,19 +1,19 @@
 -- Where put-by-id, without-id and serve act on a list, and on the records of a table.
 use mathlib.Core.Path.{_≡_, refl, sym, ap, subst, _∙_}
 use mathlib.Core.HLevel.{¬-prop}
-use mathlib.Core.Logic.{by-cases, if-pos, if-neg, ∥∥₁-elim, Dec·not}
+use mathlib.Core.Logic.{if-pos, if-neg, ∥∥₁-elim, Dec·not}
 use mathlib.Core.List.{List, [], _∷_, filter-eq-self, map-congr-left, map-id, List·Mem, pairwise-cons, exists-of-mem-map, mem-map-of-mem}
 use Prim.Native.Nat.{ℕ, zero, suc, _≤_, _<_}
 use native.Mathlib.Nat.{lt-irrefl}
 use native.Mathlib.Decide.{decLt, ℕ-discrete}
 use native.Mathlib.Omega.{arith}
-use lib.ListN.{set, length}
+use lib.ListN.{set, take, length}
 use lib.Seq.{getD-take, take-set-lt, length-take-le}
 use Rattle.basics.specs.Facts.Members.{getD-mem}
 use Rattle.table.specs.Table.{records-of, record-at, no-record}
-use Rattle.table.specs.Facts.Table.{row-at, all-records}
+use Rattle.table.specs.Facts.Table.{row-at, record-at-mem, all-records}
 use Rattle.table.specs.Changes.{HasId, put-by-id, without-id, sent, Ascending}
-use Rattle.table.specs.Needs.{HasRecords, IsPlaceOf, CanChange, serve}
+use Rattle.table.specs.Needs.{serve}
 use Rattle.table.specs.Places.{opened, closed, IsPlaceBefore}
 use Rattle.table.specs.declared.Record.{Record}
 use Rattle.table.specs.declared.Table.{Table}
@@ -68,20 +68,6 @@ absent-by-place table id differ held =
     (λ x y. absurd x)
     (λ found. all-records (λ r. r .id ≡ id → ⊥) (λ r. ¬-prop) table differ (found .0) (found .1) (found .2))
 
--- the place of an id that the table has is below the count
-pub found-by-place : (table : Table) (id r : ℕ) → HasId id (records-of table) → IsPlaceOf table id r → r < table .count
-found-by-place table id r held place =
-    by-cases (decLt r (table .count)) (λ inside. inside) (λ outside. absurd (place .absent (omega arith) held))
-
--- an id that a place has is in the table
-pub held-by-place : (table : Table) (id r : ℕ) → IsPlaceOf table id r → (r ≡ table .count → ⊥) → HasId id (records-of table)
-held-by-place table id r place differ =
-    let inside : r < table .count = below r (table .count) (place .within) differ in
-    subst (λ (n : ℕ). HasId n (records-of table)) (place .found inside) (mem-map-of-mem (λ (r : Record). r .id) (place .there inside))
-  where
-    below : (a b : ℕ) → a ≤ b → (a ≡ b → ⊥) → a < b
-    below a b le other = omega arith
-
 -- a table whose count its places can hold
 module _ (table : Table) (held : table .count ≤ length (table .streams)) where
   -- there are as many records as the count says
@@ -90,6 +76,11 @@ module _ (table : Table) (held : table .count ≤ length (table .streams)) where
 
   at-place : (k : ℕ) → k < table .count → row-at (records-of table) k ≡ record-at table k
   at-place k low = getD-take (table .count) (table .streams) k no-record low
+
+  -- an id that a place has is in the table
+  pub held-at-place : (id r : ℕ) → r < table .count → record-at table r .id ≡ id → HasId id (records-of table)
+  held-at-place id r low same =
+      subst (λ (n : ℕ). HasId n (records-of table)) same (mem-map-of-mem (λ (r : Record). r .id) (record-at-mem table held r low))
 
   -- a record put in by id goes before the first greater id, or behind the last record
   pub put-at-place : (x : Record) (r : ℕ) → IsPlaceBefore table (x .id) r → put-by-id x (records-of table) ≡ opened r x (records-of table)
@@ -100,24 +91,20 @@ module _ (table : Table) (held : table .count ≤ length (table .streams)) where
       (λ j low. omega (arith, id-at j (omega arith), place .earlier j low))
       (λ low. let inside : r < table .count = omega (arith, records-count) in omega (arith, id-at r inside, place .later inside))
 
-  module _ (id : ℕ) (can : CanChange table id) (r : ℕ) (place : IsPlaceOf table id r) where
+  module _ (ascending : Ascending (records-of table)) (id r : ℕ) (low : r < table .count) (same : record-at table r .id ≡ id) where
     inside : r < length (records-of table)
-    inside = omega (arith, records-count, found-by-place table id r (can .held) place)
+    inside = omega (arith, records-count, low)
 
     here : row-at (records-of table) r .id ≡ id
-    here = let low = found-by-place table id r (can .held) place in ap (λ (x : Record). x .id) (at-place r low) ∙ place .found low
+    here = ap (λ (x : Record). x .id) (at-place r low) ∙ same
 
     -- the records without a held id are those with the id's place closed
     pub without-at-place : without-id id (records-of table) ≡ closed r (records-of table)
-    without-at-place = without-at id (records-of table) (can .ascending) r inside here
+    without-at-place = without-at id (records-of table) ascending r inside here
 
-    -- a table with the record at a held id's place at its next packet has the records with that id served
-    pub serve-at-place : HasRecords (serve id (records-of table)) (record { count = table .count; streams = set (table .streams) r (sent (record-at table r)) })
-    serve-at-place = record {
-      records =
-          let low = found-by-place table id r (can .held) place in
-          take-set-lt (table .count) (table .streams) r (sent (record-at table r)) low
-          ∙ ap (λ (x : Record). set (records-of table) r (sent x)) (sym (at-place r low))
-          ∙ sym (serve-at id (records-of table) (can .ascending) r inside here);
-      count = can .count;
-    }
+    -- with the record at a held id's place at its next packet, the records are those with that id served
+    pub serve-at-place : take (table .count) (set (table .streams) r (sent (record-at table r))) ≡ serve id (records-of table)
+    serve-at-place =
+        take-set-lt (table .count) (table .streams) r (sent (record-at table r)) low
+        ∙ ap (λ (x : Record). set (records-of table) r (sent x)) (sym (at-place r low))
+        ∙ sym (serve-at id (records-of table) ascending r inside here)

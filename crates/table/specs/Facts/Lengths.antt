@@ -12,6 +12,7 @@ use native.Mathlib.Omega.{arith}
 use lib.ListN.{take, getD, length, set, length-set, replicate, getD-replicate}
 use lib.Seq.{getD-set-other}
 use borrow.Author.Count.{below-none}
+use Rattle.basics.specs.Limits.{places}
 use Rattle.rules.specs.Streams.{Stream}
 use Rattle.rules.specs.Demand.{packets-by}
 use Rattle.rules.specs.Facts.Division.{packets-none, packets-mono, window, ceil-least, counted-iff-due}
@@ -212,7 +213,7 @@ module _ {table : Table} {periods : List ℕ} (has : HasPeriods table periods) w
     release-walk {t} sums = record { are-next = sums .next-releases; counted = sums .most-is ∙ sym (count-by-most-in (streams-of table) formed t) }
 
     of-walks : {t : ℕ} {dues releases : List ℕ} {sums : Sums} → IsWalk (λ s. s .deadline) table t dues (sums .demand)
-        → IsWalk (λ s. 1) table t releases (sums .most) → (sums .demand ≤ 64 * t) × (sums .most ≤ 64 * t) → AreSums table t dues releases sums
+        → IsWalk (λ s. 1) table t releases (sums .most) → (sums .demand ≤ places * t) × (sums .most ≤ places * t) → AreSums table t dues releases sums
     of-walks {t} dues releases few = record {
       demand-is = dues .counted ∙ count-by-demand (streams-of table) t;
       most-is = releases .counted ∙ count-by-most-in (streams-of table) formed t;

@@ -10,6 +10,7 @@ use native.Mathlib.Omega.{arith}
 use borrow.Author.Count.{below-more}
 use lib.ListN.{take, set, length, length-set}
 use lib.Seq.{getD-set-same, getD-set-other}
+use Rattle.basics.specs.Limits.{places}
 use Rattle.table.specs.Table.{records-of, no-record}
 use Rattle.table.specs.Facts.Table.{row-at}
 use Rattle.table.specs.Needs.{HasRecords}
@@ -76,7 +77,7 @@ none-closed old place last within size = record {
 }
 
 -- with row i + 1 copied to place i, one row more has moved down
-pub one-more-closed : {old : List Record} {place last : ℕ} {new : List Record} {i : ℕ} → Closing old place last new i → i < last → last < 64
+pub one-more-closed : {old : List Record} {place last : ℕ} {new : List Record} {i : ℕ} → Closing old place last new i → i < last → last < places
     → Closing old place last (set new i (row-at new (i + 1))) (i + 1)
 one-more-closed {old} {place} {last} {new} {i} so-far more room =
     let next-row = row-at new (i + 1) in
@@ -132,7 +133,7 @@ none-opened old place count within size = record {
 }
 
 -- with row i - 1 copied to place i, one row more has moved up, and place i - 1 is free to be written
-pub one-more-opened : {old : List Record} {place count : ℕ} {new : List Record} {i : ℕ} → Opening old place count new i → place < i → count < 64
+pub one-more-opened : {old : List Record} {place count : ℕ} {new : List Record} {i : ℕ} → Opening old place count new i → place < i → count < places
     → Opening old place count (set new i (row-at new (i - 1))) (i - 1)
 one-more-opened {old} {place} {count} {new} {i} so-far more room =
     let row = row-at new (i - 1) in

@@ -10,6 +10,7 @@ use native.Mathlib.Decide.{decLt}
 use native.Mathlib.Omega.{arith}
 use lib.ListN.{length}
 use borrow.Author.Count.{below-none, below-more}
+use Rattle.basics.specs.Limits.{places}
 use Rattle.table.specs.Table.{record-at}
 use Rattle.table.specs.Facts.Table.{row-at, record-at-mem, all-records, ascending-at, ascending-from}
 use Rattle.table.specs.Range.{RecordInRange, TableInRange}
@@ -68,7 +69,7 @@ record-in-range-prop frame r p q = λ i. record {
 }
 
 -- a table of at most 64 records, all of which follow one another, is in range
-pub all-followed : (frame now : ℕ) (table : Table) (n before : ℕ) → table .count ≤ 64 → table .count ≤ n
+pub all-followed : (frame now : ℕ) (table : Table) (n before : ℕ) → table .count ≤ places → table .count ≤ n
     → Followed frame now (table .streams) n before → TableInRange frame now table
 all-followed frame now table n before count reached f =
     let each : (k : ℕ) → k < table .count → CanFollow frame now (id-before (table .streams) k) (record-at table k) =

@@ -8,6 +8,8 @@ use native.Mathlib.Nat.{le-trans, lt-irrefl, mul-le-mul-left, mul-le-mul-right}
 use native.Mathlib.Decide.{decLt}
 use native.Mathlib.Omega.{arith}
 use lib.ListN.{length}
+use Rattle.basics.specs.Limits.{longest-period, key-span}
+use Rattle.basics.specs.OneTo.{OneTo}
 use Rattle.rules.specs.Streams.{Stream, WellFormed, due}
 use Rattle.rules.specs.Demand.{packets-by, future, ceil, DueAfter}
 use Rattle.rules.specs.Facts.Division.{packets-quotient, ceil-least, ceil-enough}
@@ -39,7 +41,7 @@ module _ {b x cap T : ℕ} {table : Table} (can : CanFindStart b x cap T table) 
   due-after = all-streams (λ s. x < due s) (λ s. le-prop) (records-of table) (can .near .due-after)
 
   module _ (within : table .count ≤ length (table .streams)) where
-    due-near : (k : ℕ) → k < table .count → (x < due-of (record-at table k)) × (due-of (record-at table k) ≤ x + 479)
+    due-near : (k : ℕ) → k < table .count → (x < due-of (record-at table k)) × (due-of (record-at table k) ≤ x + key-span)
     due-near k below =
         let m = record-at-mem table within k below in
         (can .near .due-after (record-at table k) m, omega (arith, can .near .released (record-at table k) m, can .formed (record-at table k) m))
@@ -49,7 +51,7 @@ module _ {b x cap T : ℕ} {table : Table} (can : CanFindStart b x cap T table) 
     can-narrow-due =
         record { count = can .count; fits = omega arith; near = λ k below. let near = due-near k below in (omega arith, omega arith) }
 
-    period-range : (k : ℕ) → k < table .count → (1 ≤ record-at table k .period) × (record-at table k .period ≤ 240)
+    period-range : (k : ℕ) → k < table .count → OneTo longest-period (record-at table k .period)
     period-range k below = let formed = can .formed (record-at table k) (record-at-mem table within k below) in (omega arith, formed .1)
 
     -- the periods can be narrowed as they are: none is above 60,000

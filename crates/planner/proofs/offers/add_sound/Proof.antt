@@ -4,18 +4,16 @@ use borrow.Author.Needs.{needs}
 use Rattle.planner.proofs.offers.add_sound.Statement.{statement}
 use Rattle.planner.proofs.offers.add_sound.Tie as tie
 
-table-with-sound-requires : tie.Need-table-with-sound-requires
-table-with-sound-requires c κs = c .pre .can-test
-
 add-insert-sound : tie.Need-add-insert-sound
 add-insert-sound c = search needs
 
 insert-sound-requires : tie.Need-insert-sound-requires
-insert-sound-requires c κs = can-file (c .before .before .before .pre .can-test)
+insert-sound-requires c κs = can-file (c .before .before .pre .0 .can-test)
 
 returns : tie.Need-returns
-returns c = taken-in (c .before .before .before .before .pre) (c .before .before .before .table-with-sound .ensures) (c .insert-sound .ensures)
+returns c =
+    let can = c .before .before .before .pre in
+    taken-in (can .0) (can .1) (c .insert-sound .ensures)
 
 pub add-sound-spec : {M : Type 1} → statement M
-add-sound-spec =
-    tie.close (tie.spec table-with-sound-requires add-insert-sound insert-sound-requires returns)
+add-sound-spec = tie.close (tie.spec add-insert-sound insert-sound-requires returns)

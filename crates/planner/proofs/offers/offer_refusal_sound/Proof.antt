@@ -3,17 +3,18 @@
 use mathlib.Core.Path.{_≡_}
 use mathlib.Core.List.{List, _∷_}
 use Prim.Native.Nat.{ℕ}
-use native.Mathlib.Nat.{dvd-of-mod-eq-zero, mod-eq-zero-of-dvd}
+use native.Mathlib.Nat.{lt-irrefl, lt-of-lt-of-le, dvd-of-mod-eq-zero, mod-eq-zero-of-dvd}
 use native.Mathlib.Omega.{arith}
 use lib.ListN.{length}
 use Rattle.basics.specs.Facts.Decides.{failed, passed}
 use Rattle.basics.specs.Refusals.{Refusal, FirstOf, none, here, later}
 use Rattle.basics.specs.Facts.Refusals.{first-is-answer}
 use Rattle.basics.specs.OneTo.{OneTo}
-use Rattle.table.specs.Facts.Changes.{held-by-place}
+use Rattle.basics.specs.Limits.{longest-period}
 use Rattle.planner.specs.Content.{content}
 use Rattle.planner.specs.AddRemove.{bad-id, id-held, full, bad-period, bad-deadline}
-use Rattle.planner.specs.Facts.Add.{is-full, has-room, too-early, too-late, near-now}
+use Rattle.planner.specs.Facts.Sound.{can-search}
+use Rattle.planner.specs.Facts.Add.{is-full, has-room}
 use Rattle.planner.proofs.Shape.{planner-shape}
 use borrow.Author.Needs.{needs}
 use Rattle.planner.proofs.offers.offer_refusal_sound.Statement.{statement}
@@ -24,7 +25,7 @@ abbrev call-1 : tie.Else1 → tie.Start
 call-1 c = c .before .before
 
 abbrev call-2 : tie.Else2 → tie.Start
-call-2 c = call-1 (c .before .before .before .before)
+call-2 c = call-1 (c .before .before .before)
 
 abbrev call-3 : tie.Else3 → tie.Start
 call-3 c = call-2 (c .before .before)
@@ -55,19 +56,15 @@ returns c = first-is-answer (here (failed (c .before .is-one-to .ensures) (c .if
 past-id : (c : tie.Else1) {rs : List Refusal} {n : ℕ} → FirstOf rs n → FirstOf (bad-id (call-1 c .args .offer .id) ∷ rs) n
 past-id c rest = later {r = bad-id _} (λ bad. bad (passed (c .before .is-one-to .ensures) (c .if1 .left))) rest
 
-place-of-in-range-requires : tie.Need-place-of-in-range-requires
-place-of-in-range-requires c κs = search needs
+has-id-in-range-requires : tie.Need-has-id-in-range-requires
+has-id-in-range-requires c κs = can-search (call-1 (c .before) .pre)
 
 returns-2 : tie.Need-returns-2
-returns-2 c =
-    let found = c .before .before in
-    first-is-answer (past-id (found .before .before) (here (held-by-place _ _ _ (found .place-of-in-range .ensures) (c .if2 .taken))))
+returns-2 c = first-is-answer (past-id (c .before .before .before) (here (c .before .has-id-in-range .ensures .if-true (c .if2 .taken))))
 
 past-held : (c : tie.Else2) {rs : List Refusal} {n : ℕ} → FirstOf rs n → let a = call-2 c .args in
     FirstOf (bad-id (a .offer .id) ∷ id-held (a .offer .id) (content (a .p)) ∷ rs) n
-past-held c rest =
-    let found = c .before .before in
-    past-id (found .before .before) (later (found .place-of-in-range .ensures .absent (c .if2 .left)) rest)
+past-held c rest = past-id (c .before .before .before) (later (c .before .has-id-in-range .ensures .if-false (c .if2 .left)) rest)
 
 returns-3 : tie.Need-returns-3
 returns-3 c =
@@ -85,7 +82,7 @@ returns-4 : tie.Need-returns-4
 returns-4 c =
     first-is-answer (past-full (c .before .before) (here (λ fine. failed (c .before .is-one-to2 .ensures) (c .if4 .taken) (fine .0))))
 
-some-period : (c : tie.Else4) → OneTo 240 (call-4 c .args .offer .period)
+some-period : (c : tie.Else4) → OneTo longest-period (call-4 c .args .offer .period)
 some-period c = passed (c .before .is-one-to2 .ensures) (c .if4 .left)
 
 rem-if5 : tie.Need-rem-if5
@@ -114,24 +111,20 @@ past-deadline : (c : tie.Else6) {rs : List Refusal} {n : ℕ} → FirstOf rs n �
     FirstOf (bad-id (a .offer .id) ∷ id-held (a .offer .id) h ∷ full h ∷ bad-period (a .offer .period) h ∷ bad-deadline (a .offer .deadline) (a .offer .period) ∷ rs) n
 past-deadline c rest = past-period (c .before .before) (later (λ bad. bad (passed (c .before .is-one-to3 .ensures) (c .if6 .left))) rest)
 
+add-now : tie.Need-add-now
+add-now c = omega (arith, call-6 (c .before) .pre .content-sound .in-range .last)
+
 returns-7 : tie.Need-returns-7
-returns-7 c =
-    let formed = c .before .before .before in
-    first-is-answer (past-deadline formed (here (too-early (content (call-6 formed .args .p)) _ (c .if7 .taken))))
+returns-7 c = first-is-answer (past-deadline (c .before .before .before) (here (λ near. lt-irrefl _ (lt-of-lt-of-le (c .if7 .taken) (near .0)))))
 
 add-if8 : tie.Need-add-if8
-add-if8 c = omega (arith, call-7 (c .before) .pre .content-sound .in-range .last)
+add-if8 c = omega (arith, call-7 c .pre .content-sound .in-range .last)
 
 returns-8 : tie.Need-returns-8
-returns-8 c =
-    let after = c .before .before .before in
-    first-is-answer (past-deadline (after .before .before .before) (here (too-late (content (call-7 after .args .p)) _ (c .if8 .taken))))
+returns-8 c = first-is-answer (past-deadline (c .before .before .before .before .before) (here (λ near. lt-irrefl _ (lt-of-lt-of-le (c .if8 .taken) (near .1)))))
 
 returns-9 : tie.Need-returns-9
-returns-9 c =
-    let after = c .before .before .before in
-    let near = near-now (content (call-7 after .args .p)) _ (after .if7 .left) (c .if8 .left) in
-    first-is-answer (past-deadline (after .before .before .before) (later (λ bad. bad near) none))
+returns-9 c = first-is-answer (past-deadline (c .before .before .before .before .before) (later (λ bad. bad (c .before .before .if7 .left, c .if8 .left)) none))
 
 pub offer-refusal-sound-spec : {M : Type 1} → statement M
 offer-refusal-sound-spec =
@@ -139,7 +132,7 @@ offer-refusal-sound-spec =
     (tie.spec
     is-one-to-requires
     returns
-    place-of-in-range-requires
+    has-id-in-range-requires
     returns-2
     returns-3
     is-one-to-requires-2
@@ -148,6 +141,7 @@ offer-refusal-sound-spec =
     returns-5
     is-one-to-requires-3
     returns-6
+    add-now
     returns-7
     add-if8
     returns-8

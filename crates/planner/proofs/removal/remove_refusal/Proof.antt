@@ -1,9 +1,10 @@
 -- `planner::removal::remove_refusal` meets its contract: the tests are the refusals of remove, in their order.
 use native.Mathlib.Omega.{arith}
+use Rattle.basics.specs.Facts.Decides.{failed, passed}
 use Rattle.basics.specs.Facts.Refusals.{first-is-answer}
 use Rattle.basics.specs.Refusals.{none, here, later}
-use Rattle.table.specs.Facts.Changes.{held-by-place}
 use Rattle.planner.specs.Sound.{Sound}
+use Rattle.planner.specs.Facts.Sound.{can-search}
 use borrow.Author.Needs.{needs}
 use Rattle.planner.proofs.removal.remove_refusal.Statement.{statement}
 use Rattle.planner.proofs.removal.remove_refusal.Tie as tie
@@ -18,21 +19,19 @@ returns c = first-is-answer (here (c .before .sound-start .ensures .unsound (c .
 sound : (c : tie.Else1) → Sound (c .before .before .args .p)
 sound c = c .before .sound-start .ensures .sound (omega (arith, c .if1 .left))
 
-place-of-in-range-requires : tie.Need-place-of-in-range-requires
-place-of-in-range-requires c κs = sound (c .before) .count
+has-id-in-range-requires : tie.Need-has-id-in-range-requires
+has-id-in-range-requires c κs = can-search (sound (c .before))
 
 returns-2 : tie.Need-returns-2
 returns-2 c =
-    let found = c .before .before in
-    first-is-answer (later (λ unsound. unsound (sound (found .before .before))) (here (found .place-of-in-range .ensures .absent (c .if2 .taken))))
+    first-is-answer (later (λ unsound. unsound (sound (c .before .before .before))) (here (failed (c .before .has-id-in-range .ensures) (c .if2 .taken))))
 
 returns-3 : tie.Need-returns-3
 returns-3 c =
-    let found = c .before .before in
-    let held = held-by-place _ _ _ (found .place-of-in-range .ensures) (c .if2 .left) in
-    first-is-answer (later (λ unsound. unsound (sound (found .before .before))) (later (λ absent. absent held) none))
+    let held = passed (c .before .has-id-in-range .ensures) (c .if2 .left) in
+    first-is-answer (later (λ unsound. unsound (sound (c .before .before .before))) (later (λ absent. absent held) none))
 
 pub remove-refusal-spec : {M : Type 1} → statement M
 remove-refusal-spec =
     tie.close
-    (tie.spec sound-start-requires returns place-of-in-range-requires returns-2 returns-3)
+    (tie.spec sound-start-requires returns has-id-in-range-requires returns-2 returns-3)

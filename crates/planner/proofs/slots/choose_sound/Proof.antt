@@ -1,21 +1,23 @@
 -- `planner::slots::choose_sound` meets its contract: after i entries the released ones among them have been taken,
 -- each beside its row and its place.
-use mathlib.Core.Path.{_≡_, subst, subst⁻¹}
+use mathlib.Core.Path.{_≡_, subst}
 use mathlib.Core.Logic.{⊎-elim}
-use Prim.Native.Nat.{ℕ, _+_, _-_, _<_}
+use Prim.Native.Nat.{ℕ, _-_, _<_}
 use native.Mathlib.Omega.{arith}
 use lib.ListN.{length}
 use Rattle.basics.specs.Places.{IsPlaceAmong}
-use Rattle.planner.specs.Facts.Choosing.{Visited, can-walk, can-search, none-visited, full-chosen, all-chosen, still-room, one-more-taken-in, one-more-skipped-in}
+use Rattle.basics.specs.Limits.{places, most-slots}
+use Rattle.planner.specs.Facts.Choosing.{Visited, can-walk, can-look-up, none-visited, full-chosen, all-chosen, still-room, one-more-taken-in, one-more-skipped-in}
 use Rattle.planner.proofs.Shape.{planner-shape}
 use Rattle.planner.proofs.slots.choose_sound.Statement.{statement}
 use Rattle.planner.proofs.slots.choose_sound.Tie as tie
 
 abbrev Inv-loop : tie.InvT-loop
-Inv-loop p start table streams order ids chosen₀ i₀ chosen i = Visited (p .queue) table (p .setting .slots) start i chosen
+Inv-loop p start table streams order ids placed₀ rows₀ n₀ i₀ placed rows n i =
+    Visited (p .queue) table (p .setting .slots) start i (record { placed = placed; rows = rows; n = n })
 
 abbrev μ-loop : tie.MeasureT-loop
-μ-loop p start table streams order ids chosen₀ i₀ chosen i = table .count - i
+μ-loop p start table streams order ids placed₀ rows₀ n₀ i₀ placed rows n i = table .count - i
 
 long : (c : tie.Start Inv-loop μ-loop) → length (c .args .p .table .streams) ≡ 64
 long c = planner-shape (c .args .p) _ (c .good .0)
@@ -47,10 +49,10 @@ returns c =
     full-chosen (start .pre) (long start) (at .loop .inv) (c .if2 .taken)
 
 -- in a turn that goes on, an entry is left and a slot is free
-inside : (c : tie.Else2 Inv-loop μ-loop) → c .before .before .before .before .loop .i < 64
+inside : (c : tie.Else2 Inv-loop μ-loop) → c .before .before .before .before .loop .i < places
 inside c = omega (arith, c .before .before .if1 .taken, from (c .before .before .before .before) .pre .sound .count)
 
-room : (c : tie.Else2 Inv-loop μ-loop) → c .before .before .before .before .loop .chosen .n < 64
+room : (c : tie.Else2 Inv-loop μ-loop) → c .before .before .before .before .loop .n < most-slots
 room c =
     let at = c .before .before .before .before in
     let start = from at in
@@ -75,7 +77,7 @@ place-among-rising-requires : tie.Need-place-among-rising-requires Inv-loop μ-l
 place-among-rising-requires c κs =
     let at = c .before .before .before .before .before .before .before .before in
     let start = from at in
-    can-search (start .pre) (long start) (at .before .ids-in-range .ensures)
+    can-look-up (start .pre) (long start) (at .before .ids-in-range .ensures)
 
 mul-stream : tie.Need-mul-stream Inv-loop μ-loop
 mul-stream c = omega (arith, c .place-among-rising .ensures .within)
@@ -87,26 +89,26 @@ array-copy-out-stream c = c .place-among-rising .ensures .within
 abbrev turn : tie.After-struct-known3 Inv-loop μ-loop → tie.Else2 Inv-loop μ-loop
 turn c = c .before .before .before .before .before .before .before
 
-mul-chosen : tie.Need-mul-chosen Inv-loop μ-loop
-mul-chosen c = omega (arith, room (turn (c .before)))
+mul-placed : tie.Need-mul-placed Inv-loop μ-loop
+mul-placed c = omega (arith, room (turn (c .before)))
 
-element-write-chosen : tie.Need-element-write-chosen Inv-loop μ-loop
-element-write-chosen c = room (turn (c .before))
+element-write-placed : tie.Need-element-write-placed Inv-loop μ-loop
+element-write-placed c = room (turn (c .before))
 
-mul-chosen-2 : tie.Need-mul-chosen-2 Inv-loop μ-loop
-mul-chosen-2 c = omega (arith, room (turn (c .before)))
+mul-placed-2 : tie.Need-mul-placed-2 Inv-loop μ-loop
+mul-placed-2 c = omega (arith, room (turn (c .before)))
 
-element-write-chosen-2 : tie.Need-element-write-chosen-2 Inv-loop μ-loop
-element-write-chosen-2 c = room (turn (c .before))
+element-write-placed-2 : tie.Need-element-write-placed-2 Inv-loop μ-loop
+element-write-placed-2 c = room (turn (c .before))
 
-mul-chosen-3 : tie.Need-mul-chosen-3 Inv-loop μ-loop
-mul-chosen-3 c = omega (arith, room (turn (c .before)))
+mul-rows : tie.Need-mul-rows Inv-loop μ-loop
+mul-rows c = omega (arith, room (turn (c .before)))
 
-element-write-chosen-3 : tie.Need-element-write-chosen-3 Inv-loop μ-loop
-element-write-chosen-3 c = room (turn (c .before))
+array-write-rows : tie.Need-array-write-rows Inv-loop μ-loop
+array-write-rows c = room (turn (c .before))
 
-add-chosen : tie.Need-add-chosen Inv-loop μ-loop
-add-chosen c = omega (arith, room (turn (c .before)))
+add-n : tie.Need-add-n Inv-loop μ-loop
+add-n c = omega (arith, room (turn (c .before)))
 
 add-i : tie.Need-add-i Inv-loop μ-loop
 add-i c = omega (arith, inside (turn (c .before)))
@@ -121,16 +123,14 @@ loop-again c =
     let more = free .before .before in
     let at = more .before .before in
     let start = from at in
-    let p = start .args .p in
     let ids = at .before .ids-in-range in
     let order = at .before .before .in-order-sound in
     let row = found .place-among-rising .result in
     let in-row = subst (λ (n : ℕ). IsPlaceAmong (ids .result) n row) (found .before .wide .ensures) (found .place-among-rising .ensures) in
-    let now-visited = Visited (p .queue) (p .table) (p .setting .slots) (start .args .start) (at .loop .i + 1) in
     ⊎-elim
-    (λ w. subst⁻¹ now-visited (w .1)
+    (λ w. rw (w .1, w .2, w .3)
     (one-more-taken-in (start .pre) (long start) (at .loop .inv) (more .if1 .taken) (order .ensures) (ids .ensures) in-row (free .if2 .left) (w .0 .taken)))
-    (λ w. subst⁻¹ now-visited (w .1)
+    (λ w. rw (w .1, w .2, w .3)
     (one-more-skipped-in (start .pre) (long start) (at .loop .inv) (more .if1 .taken) (order .ensures) (ids .ensures) in-row (w .0 .left)))
     (c .if3 .came)
 
@@ -159,13 +159,13 @@ choose-sound-spec =
     place-among-rising-requires
     mul-stream
     array-copy-out-stream
-    mul-chosen
-    element-write-chosen
-    mul-chosen-2
-    element-write-chosen-2
-    mul-chosen-3
-    element-write-chosen-3
-    add-chosen
+    mul-placed
+    element-write-placed
+    mul-placed-2
+    element-write-placed-2
+    mul-rows
+    array-write-rows
+    add-n
     add-i
     loop-less
     loop-again

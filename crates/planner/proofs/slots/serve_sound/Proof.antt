@@ -4,6 +4,7 @@ use mathlib.Core.Path.{_≡_, refl, subst, subst⁻¹}
 use Prim.Native.Nat.{ℕ, _-_, _≤_, _<_}
 use native.Mathlib.Omega.{arith}
 use lib.ListN.{getD}
+use Rattle.basics.specs.Limits.{places, most-slots}
 use Rattle.planner.specs.Content.{content}
 use Rattle.planner.specs.AddRemove.{IsSoundWith}
 use Rattle.planner.specs.Round.{rounded}
@@ -26,10 +27,10 @@ loop-holds c =
     (start .pre, omega arith, none-served (start .pre) (planner-shape (start .args .p) _ (start .good .0)) refl)
 
 -- in a turn k is below 64, and so is the row of its stream
-turn-below : (c : tie.In-loop Inv-loop μ-loop) → c .before .loop .k < 64
+turn-below : (c : tie.In-loop Inv-loop μ-loop) → c .before .loop .k < most-slots
 turn-below c = omega (arith, c .loop-test .taken, chosen-below (c .before .loop .inv .0))
 
-its-row : (c : tie.In-loop Inv-loop μ-loop) → getD (c .before .before .before .before .args .t2 .rows) (c .before .loop .k) 0 < 64
+its-row : (c : tie.In-loop Inv-loop μ-loop) → getD (c .before .before .before .before .args .t2 .rows) (c .before .loop .k) 0 < places
 its-row c =
     let inv = c .before .loop .inv in
     row-below (inv .0) (c .loop-test .taken) (inv .2)
@@ -88,7 +89,7 @@ done c =
 
 move-all-sound-requires : tie.Need-move-all-sound-requires Inv-loop μ-loop
 move-all-sound-requires c κs =
-    let end = c .before .before .before in
+    let end = c .before .before in
     can-move-all (end .before .loop .inv .0) (done end)
 
 after-round-requires : tie.Need-after-round-requires Inv-loop μ-loop
@@ -96,7 +97,7 @@ after-round-requires c κs = tt
 
 returns : tie.Need-returns Inv-loop μ-loop
 returns c =
-    let end = c .before .before .before .before .before in
+    let end = c .before .before .before .before in
     let start = end .before .before .before .before in
     subst⁻¹ (IsSoundWith (rounded (content (start .args .p)) (start .args .start))) (c .after-round .ensures)
     (all-served (end .before .loop .inv .0) (done end) (c .before .move-all-sound .ensures))

@@ -4,11 +4,11 @@ use native.Mathlib.Omega.{arith}
 use Rattle.table.proofs.changes.at_next_packet_in_range.Statement.{statement}
 use Rattle.table.proofs.changes.at_next_packet_in_range.Tie as tie
 
-add-t2 : tie.Need-add-t2
-add-t2 c = omega arith
+add-next : tie.Need-add-next
+add-next c = omega arith
 
 returns : tie.Need-returns
 returns c = refl
 
 pub at-next-packet-in-range-spec : {M : Type 1} → statement M
-at-next-packet-in-range-spec = tie.close (tie.spec add-t2 returns)
+at-next-packet-in-range-spec = tie.close (tie.spec add-next returns)

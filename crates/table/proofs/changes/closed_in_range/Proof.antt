@@ -45,6 +45,9 @@ loop-less c = omega arith
 loop-again : tie.Need-loop-again Inv-loop μ-loop
 loop-again c = one-more-closed (c .before .before .loop .inv) (c .before .loop-test .taken) (omega arith)
 
+no-record-requires : tie.Need-no-record-requires Inv-loop μ-loop
+no-record-requires c κs = tt
+
 mul-streams-2 : tie.Need-mul-streams-2 Inv-loop μ-loop
 mul-streams-2 c = omega arith
 
@@ -53,10 +56,11 @@ array-set-from-streams-2 c = omega arith
 
 returns : tie.Need-returns Inv-loop μ-loop
 returns c =
-    let start = c .before .before .before .before in
+    let left = c .before in
+    let start = left .before .before .before .before in
     let args = start .args in
     let shape = table-shape (args .table) _ (start .good .0) in
-    all-closed (args .table) (args .place) (start .pre) shape refl (c .loop-test .left) (c .before .loop .inv) _
+    all-closed (args .table) (args .place) (start .pre) shape refl (left .loop-test .left) (left .before .loop .inv) _
 
 pub closed-in-range-spec : {M : Type 1} → statement M
 closed-in-range-spec =
@@ -74,6 +78,7 @@ closed-in-range-spec =
     add-i
     loop-less
     loop-again
+    no-record-requires
     mul-streams-2
     array-set-from-streams-2
     returns)

@@ -3,6 +3,7 @@ use mathlib.Core.Path.{refl}
 use Prim.Native.Nat.{_+_, _≤_}
 use native.Mathlib.Omega.{arith}
 use borrow.Author.Needs.{needs}
+use Rattle.basics.specs.Limits.{largest-key}
 use Rattle.table.proofs.columns.value_in_range.Statement.{statement}
 use Rattle.table.proofs.columns.value_in_range.Tie as tie
 
@@ -23,7 +24,7 @@ add-result c =
     let start = c .before .before .before in
     let stream = start .args .stream in
     let is-due = c .before .enum-told3 .given .1 in
-    let small : stream .release + stream .deadline ≤ 2_000_000_000 = rw is-due at (start .pre) in
+    let small : stream .release + stream .deadline ≤ largest-key = rw is-due at (start .pre) in
     omega arith
 
 returns : tie.Need-returns

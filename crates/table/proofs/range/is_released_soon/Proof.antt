@@ -2,6 +2,7 @@
 use Prim.Native.Nat.{_-_}
 use native.Mathlib.Omega.{arith}
 use Rattle.basics.specs.Facts.Decides.{decides-yes, same-as, no-more-than}
+use Rattle.basics.specs.Limits.{furthest-release}
 use Rattle.table.proofs.range.is_released_soon.Statement.{statement}
 use Rattle.table.proofs.range.is_released_soon.Tie as tie
 
@@ -11,7 +12,7 @@ returns c = decides-yes (omega arith)
 returns-2 : tie.Need-returns-2
 returns-2 c =
     let args = c .before .before .before .args in
-    same-as (λ soon. omega arith) (λ soon. omega arith) (no-more-than (args .stream .release - 239) (args .now))
+    same-as (λ soon. omega arith) (λ soon. omega arith) (no-more-than (args .stream .release - furthest-release) (args .now))
 
 pub is-released-soon-spec : {M : Type 1} → statement M
 is-released-soon-spec = tie.close (tie.spec returns returns-2)

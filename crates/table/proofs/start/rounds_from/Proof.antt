@@ -3,6 +3,7 @@ use mathlib.Core.Path.{refl}
 use Prim.Native.Nat.{_-_, _*_, _≤_}
 use native.Mathlib.Nat.{mul-le-mul}
 use native.Mathlib.Omega.{arith}
+use Rattle.basics.specs.Limits.{most-slots}
 use Rattle.rules.specs.Demand.{ceil}
 use Rattle.rules.specs.Facts.Division.{ceil-least}
 use Rattle.table.specs.Facts.Search.{few-rounds, too-few-rounds}
@@ -25,7 +26,7 @@ mul-loop c =
     let args = c .before .args in
     let slots = c .before .pre .slots in
     let few : c .loop .n ≤ 1_000_000 = omega (arith, few-rounds (args .slots) (args .packets) (slots .0)) in
-    let most : args .slots * c .loop .n ≤ 64 * 1_000_000 = mul-le-mul (slots .1) few in
+    let most : args .slots * c .loop .n ≤ most-slots * 1_000_000 = mul-le-mul (slots .1) few in
     omega arith
 
 add-n : tie.Need-add-n Inv-loop μ-loop

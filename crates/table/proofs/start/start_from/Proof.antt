@@ -7,6 +7,7 @@ use native.Mathlib.Omega.{arith}
 use mir.Syntax.{w16}
 use borrow.Author.Needs.{needs}
 use borrow.Kind.Array.{good-length, eInt}
+use Rattle.basics.specs.Limits.{places}
 use Rattle.rules.specs.Demand.{ceil}
 use Rattle.rules.specs.Facts.Division.{div-mono}
 use Rattle.table.specs.Table.{streams-of}
@@ -24,7 +25,7 @@ abbrev Inv-loop : tie.InvT-loop
 Inv-loop table slots now cap first busy periods end times₀ sum₀ needed₀ start₀ t₀ times sum needed start t =
     (first ≤ t)
     × (t ≤ first + busy)
-    × (sum ≤ 64 * (t - first))
+    × (sum ≤ places * (t - first))
     × (needed ≤ ceil sum slots)
     × Looked slots now cap (streams-of table) first t start
     × ((before : ℕ) × (before + 1 ≡ t - now) × IsWalk (due-from now) table before times sum)

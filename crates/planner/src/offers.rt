@@ -108,11 +108,17 @@ fn add_sound(p: Planner, offer: Offer, table: Table) -> Planner
     after
 }
 
-// What add does once none of 5 to 11 applies. The table with the stream is built once: it is tested, and it is the one stored.
-fn add_tested(p: Planner, offer: Offer) -> Changed
-    requires { ⌜ CanTest p offer ⌝ }
+// A refused offer leaves the planner as it was. The table with the stream is built once: it is tested, and it is the one stored.
+fn add_offer(p: Planner, offer: Offer) -> Changed
     ensures { λ r. ⌜ IsAdd p offer r ⌝ }
 {
+    let refused = offer_refusal(p, offer);
+    if refused != 0 {
+        return Changed {
+            answer: refused,
+            planner: p,
+        };
+    }
     let table = table_with_sound(p, offer);
     let answer = rule_refusal_sound(p, offer, table);
     if answer != 0 {
@@ -120,17 +126,6 @@ fn add_tested(p: Planner, offer: Offer) -> Changed
     }
     let planner = add_sound(p, offer, table);
     Changed { answer: 0, planner }
-}
-
-// A refused offer leaves the planner as it was.
-fn add_offer(p: Planner, offer: Offer) -> Changed
-    ensures { λ r. ⌜ IsAdd p offer r ⌝ }
-{
-    let answer = offer_refusal(p, offer);
-    if answer != 0 {
-        return Changed { answer, planner: p };
-    }
-    add_tested(p, offer)
 }
 
 // Annex 7.10 to 7.20: takes a stream in, whose first packet is released at `start`.

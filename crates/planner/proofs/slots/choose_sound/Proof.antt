@@ -1,8 +1,8 @@
 -- `planner::slots::choose_sound` meets its contract: after i entries the released ones among them have been taken,
 -- each beside its row and its place.
-use mathlib.Core.Path.{_≡_, subst}
+use mathlib.Core.Path.{_≡_, subst, subst⁻¹}
 use mathlib.Core.Logic.{⊎-elim}
-use Prim.Native.Nat.{ℕ, _-_, _<_}
+use Prim.Native.Nat.{ℕ, _+_, _-_, _<_}
 use native.Mathlib.Omega.{arith}
 use lib.ListN.{length}
 use Rattle.basics.specs.Places.{IsPlaceAmong}
@@ -127,10 +127,11 @@ loop-again c =
     let order = at .before .before .in-order-sound in
     let row = found .place-among-rising .result in
     let in-row = subst (λ (n : ℕ). IsPlaceAmong (ids .result) n row) (found .before .wide .ensures) (found .place-among-rising .ensures) in
+    let now-visited = Visited (start .args .p .queue) (start .args .p .table) (start .args .p .setting .slots) (start .args .start) (at .loop .i + 1) in
     ⊎-elim
-    (λ w. rw (w .1, w .2, w .3)
+    (λ w. subst⁻¹ now-visited (λ i. record { placed = w .1 i; rows = w .2 i; n = w .3 i })
     (one-more-taken-in (start .pre) (long start) (at .loop .inv) (more .if1 .taken) (order .ensures) (ids .ensures) in-row (free .if2 .left) (w .0 .taken)))
-    (λ w. rw (w .1, w .2, w .3)
+    (λ w. subst⁻¹ now-visited (λ i. record { placed = w .1 i; rows = w .2 i; n = w .3 i })
     (one-more-skipped-in (start .pre) (long start) (at .loop .inv) (more .if1 .taken) (order .ensures) (ids .ensures) in-row (w .0 .left)))
     (c .if3 .came)
 

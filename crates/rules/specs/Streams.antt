@@ -2,6 +2,7 @@
 use mathlib.Core.Path.{_≡_}
 use mathlib.Core.List.{List, List·Mem, List·Nodup, map}
 use Prim.Native.Nat.{ℕ, _+_, _*_, _≤_}
+use Rattle.basics.specs.OneTo.{OneTo}
 
 -- Annex 1.1, 2.1: a stream as the rules see it, in whole numbers of any size: its id, here number, P, D, and the release of its first unserved packet.
 pub record Stream : Type 0 where
@@ -28,9 +29,9 @@ due s = s .release + s .deadline
 abbrev pub MayRide : Packet → ℕ → Type 0
 MayRide q s = (q .release ≤ s) × (s + 1 ≤ q .due)
 
--- Annex 2.4: D is at least 1 and at most P.
+-- Annex 2.4: D is 1 to P.
 abbrev pub WellFormed : Stream → Type 0
-WellFormed s = (1 ≤ s .deadline) × (s .deadline ≤ s .period)
+WellFormed s = OneTo (s .period) (s .deadline)
 
 -- Annex 2.6: a table: no number twice, and every stream well formed.
 pub record IsTable (ss : List Stream) : Type 0 where

@@ -10,7 +10,6 @@ use Rattle.basics.specs.Limits.{last-start, places, most-slots, longest-frame, 
 use Rattle.basics.specs.Facts.OneTo.{in-limit}
 use Rattle.basics.specs.Refusals.{answer-of, none, later}
 use Rattle.basics.specs.Facts.Refusals.{AllPass, AllNumbered, zero-all-pass, first-is-answer}
-use Rattle.basics.specs.Limits.{last-start, places, most-slots, longest-frame, longest-gap}
 use Rattle.rules.specs.Demand.{demand, future}
 use Rattle.table.specs.Range.{RecordsInRange}
 use Rattle.table.specs.Facts.Streams.{none-seen}

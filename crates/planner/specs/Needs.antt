@@ -10,6 +10,7 @@ use Rattle.rules.specs.Demand.{DemandRule, StartRule}
 use Rattle.table.specs.Table.{records-of, record-at, due-of}
 use Rattle.table.specs.declared.Record.{Record}
 use Rattle.table.specs.Changes.{Ascending}
+use Rattle.table.specs.Needs.{HasRecords}
 use Rattle.table.specs.declared.Table.{Table}
 use Rattle.queue.specs.Interface.{entries, IsPlacedAt}
 use Rattle.queue.specs.Interface
@@ -17,10 +18,11 @@ use Rattle.queue.specs.declared.Queue.{Queue}
 use Rattle.planner.specs.Content.{Content, content, slots-of, streams-in, now-of}
 use Rattle.planner.specs.Sound.{Files, Sound}
 use Rattle.planner.specs.declared.Offer.{Offer}
-use Rattle.planner.specs.AddRemove.{added, IsWellFormed}
+use Rattle.planner.specs.AddRemove.{add-refusals, added, IsWellFormed}
 use Rattle.planner.specs.Round.{ids-at, round-refusals}
 use Rattle.planner.specs.Start.{IsStart}
 use Rattle.planner.specs.declared.Planner.{Planner}
+use Rattle.planner.specs.declared.offers.Tested.{Tested}
 use Rattle.planner.specs.declared.slots.Chosen.{Chosen}
 
 -- The lazy start of a sound planner; 0 for a planner that is not sound.
@@ -55,6 +57,11 @@ pub record CanAdd (p : Planner) (o : Offer) : Type 0 where
   pub can-test : CanTest p o
   pub demand-rule : DemandRule (slots-of (content p)) (streams-in (added (content p) o))
   pub start-rule : StartRule (slots-of (content p)) (now-of (content p)) (streams-in (added (content p) o))
+
+-- The answer of add, and where it is 0 the table with the stream, which can be taken in.
+pub record IsTested (p : Planner) (o : Offer) (r : Tested) : Type 0 where
+  pub answer : r .answer ≡ answer-of (add-refusals p o)
+  pub can-add : r .answer ≡ 0 → CanAdd p o × HasRecords (added (content p) o .table) (r .table)
 
 -- The answer of round for a buffer of this length.
 abbrev pub IsRoundAnswer : Planner → ℕ → ℕ → Type 0

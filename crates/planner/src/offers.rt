@@ -6,7 +6,7 @@ ghost use Rattle.table.specs.Needs.{HasRecords};
 ghost use Rattle.planner.specs.Content.{content};
 ghost use Rattle.planner.specs.Sound.{Sound};
 ghost use Rattle.planner.specs.AddRemove.{offer, unsound, offer-refusals, rule-refusals, added, IsSoundWith, IsAdd};
-ghost use Rattle.planner.specs.Needs.{CanAdd, CanTest};
+ghost use Rattle.planner.specs.Needs.{CanAdd, CanTest, IsTested};
 use super::Changed;
 use super::Offer;
 use super::Planner;
@@ -95,6 +95,29 @@ fn rule_refusal_sound(p: Planner, offer: Offer, table: Table) -> u32
     0
 }
 
+// What add answers, and the table that the two rules were tested on, if it came to that.
+struct Tested {
+    pub answer: u32,
+    pub table: Table,
+}
+
+// The table with the stream is built once: it is tested here, and it is the one stored.
+fn test_offer(p: Planner, offer: Offer) -> Tested
+    ensures { λ r. ⌜ IsTested p offer r ⌝ }
+{
+    let refused = offer_refusal(p, offer);
+    if refused != 0 {
+        let before = p.table;
+        return Tested {
+            answer: refused,
+            table: before,
+        };
+    }
+    let table = table_with_sound(p, offer);
+    let answer = rule_refusal_sound(p, offer, table);
+    Tested { answer, table }
+}
+
 // The planner has the table with the stream, and the queue has the stream under its due time.
 fn add_sound(p: Planner, offer: Offer, table: Table) -> Planner
     requires { ⌜ CanAdd p offer × HasRecords (added (content p) offer .table) table ⌝ }
@@ -108,22 +131,16 @@ fn add_sound(p: Planner, offer: Offer, table: Table) -> Planner
     after
 }
 
-// A refused offer leaves the planner as it was. The table with the stream is built once: it is tested, and it is the one stored.
+// A refused offer leaves the planner as it was.
 fn add_offer(p: Planner, offer: Offer) -> Changed
     ensures { λ r. ⌜ IsAdd p offer r ⌝ }
 {
-    let refused = offer_refusal(p, offer);
-    if refused != 0 {
-        return Changed {
-            answer: refused,
-            planner: p,
-        };
-    }
-    let table = table_with_sound(p, offer);
-    let answer = rule_refusal_sound(p, offer, table);
+    let tested = test_offer(p, offer);
+    let answer = tested.answer;
     if answer != 0 {
         return Changed { answer, planner: p };
     }
+    let table = tested.table;
     let planner = add_sound(p, offer, table);
     Changed { answer: 0, planner }
 }

@@ -4,7 +4,6 @@ use mathlib.Core.Logic.{ite, if-pos, if-neg}
 use mathlib.Core.List.{List, [], _∷_, _++_}
 use Prim.Native.Nat.{ℕ, _≤_}
 use native.Mathlib.Nat.{lt-irrefl}
-use native.Mathlib.Decide.{ℕ-discrete}
 use native.Mathlib.Omega.{arith}
 use Rattle.basics.specs.Refusals.{Refusal, answer-of, FirstOf, here, later, none}
 
@@ -63,14 +62,6 @@ answer-append (r ∷ rs) rest some = go (r .decided) some (answer-append rs rest
         → ite d (r .number) (answer-of (rs ++ rest)) ≡ ite d (r .number) (answer-of rs)
     go (yes applies) some below = refl
     go (no passes) some below = below some
-
--- with answer 0, those before give 0 too
-pub zero-before : (rs rest : List Refusal) → answer-of (rs ++ rest) ≡ 0 → answer-of rs ≡ 0
-zero-before rs rest zero = go (ℕ-discrete (answer-of rs) 0)
-  where
-    go : Dec (answer-of rs ≡ 0) → answer-of rs ≡ 0
-    go (yes zeros) = zeros
-    go (no some) = sym (answer-append rs rest some) ∙ zero
 
 -- the answer is the first number that applies
 pub answer-is-first : (rs : List Refusal) → FirstOf rs (answer-of rs)

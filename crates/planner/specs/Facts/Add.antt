@@ -88,7 +88,7 @@ module _ (h : Content) (o : Offer) where
       not-full n room = omega arith
 
   -- where the answer of 6 to 11 is 0, the new stream is well formed and a place is free
-  pub offer-passed : answer-of (offer-refusals h o) ≡ 0 → IsWellFormed h o
+  offer-passed : answer-of (offer-refusals h o) ≡ 0 → IsWellFormed h o
   unfolding AllNumbered
   offer-passed zero =
       passes-offer (zero-all-pass (offer-refusals h o) (omega arith, (omega arith, (omega arith, (omega arith, (omega arith, (omega arith, tt)))))) zero)

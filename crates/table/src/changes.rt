@@ -3,14 +3,25 @@ ghost use mathlib.Core.Path.{_≡_};
 ghost use Prim.Native.Nat.{_≤_};
 ghost use Rattle.basics.specs.Decides.{Decides};
 ghost use Rattle.basics.specs.Limits.{longest-period, largest-key};
-ghost use Rattle.table.specs.Table.{records-of};
+ghost use Rattle.table.specs.Table.{records-of, no-record};
 ghost use Rattle.table.specs.Changes.{HasId, put-by-id, without-id, sent};
 ghost use Rattle.table.specs.Needs.{HasRecords, CanSearch, CanPut, CanTakeOut};
 ghost use Rattle.table.specs.Places.{IsPlaceFor, CanOpen, opened, CanClose, closed};
 use super::Record;
 use super::Table;
-use super::ids_in_range;
-use super::no_record;
+use super::columns::ids_in_range;
+
+// What a free place has: zeros.
+pub fn no_record() -> Record
+    ensures { λ r. ⌜ r ≡ no-record ⌝ }
+{
+    Record {
+        id: 0,
+        period: 0,
+        deadline: 0,
+        release: 0,
+    }
+}
 
 // The place for an id, found by halving.
 fn place_for_in_range(table: Table, id: u32) -> usize

@@ -1,9 +1,10 @@
-// Columns of a table: the periods, deadlines, due times or releases of its streams.
+// Columns of a table: the periods, deadlines, due times or releases of its streams, and their ids.
 ghost use mathlib.Core.Path.{_≡_};
 ghost use Prim.Native.Nat.{_≤_};
-ghost use Rattle.basics.specs.Limits.{largest-key};
+ghost use Rattle.basics.specs.Limits.{places, largest-key};
 ghost use Rattle.table.specs.Table.{IsColumn, stream-of, value-of};
 ghost use Rattle.table.specs.Needs.{CanRead};
+ghost use Rattle.table.specs.Ids.{IsIds};
 use super::Column;
 use super::Record;
 use super::Table;
@@ -35,4 +36,20 @@ pub fn column_in_range(table: Table, column: Column) -> [u32; 64]
         i += 1;
     }
     values
+}
+
+// The ids at their places, and a number above every id at the free ones, so that all 64 rise.
+pub fn ids_in_range(table: Table) -> [u32; 64]
+    requires { ⌜ table .count ≤ places ⌝ }
+    ensures { λ r. ⌜ IsIds table r ⌝ }
+{
+    let streams = table.streams;
+    let mut ids = [4_294_967_295u32; 64];
+    let mut i: usize = 0;
+    while i < table.count {
+        let stream = streams[i];
+        ids[i] = stream.id;
+        i += 1;
+    }
+    ids
 }

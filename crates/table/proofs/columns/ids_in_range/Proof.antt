@@ -1,9 +1,9 @@
--- `table::ids_in_range` meets its contract: the ids before place i are written, the places from it on are still free.
+-- `table::columns::ids_in_range` meets its contract: the ids before place i are written, the places from it on are still free.
 use Prim.Native.Nat.{_-_, _≤_}
 use native.Mathlib.Omega.{arith}
 use Rattle.table.specs.Facts.Ids.{IdsTo, ids-none, ids-more}
-use Rattle.table.proofs.ids_in_range.Statement.{statement}
-use Rattle.table.proofs.ids_in_range.Tie as tie
+use Rattle.table.proofs.columns.ids_in_range.Statement.{statement}
+use Rattle.table.proofs.columns.ids_in_range.Tie as tie
 
 abbrev Inv-loop : tie.InvT-loop
 Inv-loop table streams ids₀ i₀ ids i = (i ≤ table .count) × IdsTo streams i ids

@@ -30,7 +30,7 @@
  * program without a C library has to have its own, as examples/c/freestanding.c has. No heap; no pointer is kept, and no call writes
  * anything but what it is lent and its stack. Every call returns, if these two do and the stack is large enough; nothing tests that it is.
  *
- * Stack, in bytes, return address and memcpy and memset of glibc included: open 1,112, add 18,952, remove 15,048, round 21,096, filled 24 (16
+ * Stack, in bytes, return address and memcpy and memset of glibc included: open 1,112, add 15,880, remove 15,032, round 21,736, filled 24 (16
  * of each are the measuring program's). Measured on a painted stack (`bash bench/stack`), the most over calls of every answer on a dozen
  * tables with up to 64 streams. That is this build, by the compiler that built it, and no promise: measure again what is linked, and leave
  * room above it.

@@ -115,7 +115,7 @@ module _ {M : Type 1} (𝓤 : URA M) (H : Heap 𝓤) (A : Atoms 𝓤) (k : ℕ) 
 
   module _ (W : Given 𝓤 H A) (𝓣 : Tables 𝓤 H) (callee : Name) (known : Triple 𝓤 (𝓣 .C callee) Round)
       (kept : (h : Planner) (ns : Nums k) (before after : List ℕ) (r : Rounded) → Says h ns before after r → (r .answer ≡ 0 → ⊥) → r .planner ≡ h) where
-    -- one call: the planner h behind p, the numbers ns and the buffer with ys
+    -- one call: the reference, and the numbers with the buffer behind them
     module _ (κ κ′ : Lft) (q q′ : Share) (p : RefT Planner) (a : Passed lent-buffer (κ, (κ′, tt)) k) (fits : Fit k (nums lent-buffer (κ, (κ′, tt)) k a))
         (room : Room u16 (length (now (rest lent-buffer (κ, (κ′, tt)) k a .0)))) where
       abbrev κs : Lfts 2
@@ -137,6 +137,7 @@ module _ {M : Type 1} (𝓤 : URA M) (H : Heap 𝓤) (A : Atoms 𝓤) (k : ℕ) 
       abbrev passed : Passed value-buffer (κ′, tt) k
       passed = given value-buffer (κ′, tt) k ns (buffer, tt)
 
+      -- what the callee binds at exit, the buffer's last list among it, and what it says of the round
       abbrev X : Type 0
       X = Lasts (value-round k) (κ′, tt) (p .now, passed)
 

@@ -20,9 +20,9 @@ use Rattle.lent.proofs.planner_round as f
 use Rattle.lent.proofs.planner_round.Statement as stated
 use Rattle.lent.proofs.planner_round.Code as code
 
--- the code is that of a round with no number
-same-code : code.function ≡ rounding 0 callee.name
-same-code = refl
+-- the code is that of a round with no number; at which answer it stores is read off it
+abbrev same-code : (a : ℕ) × (code.function ≡ rounding 0 a callee.name)
+same-code = (_, refl)
 
 -- what the callee says of its result and of the buffer
 abbrev Says : Planner → Nums 0 → (before after : List ℕ) → Rounded → Type 0
@@ -39,4 +39,4 @@ planner-round-spec 𝓤 H 𝓜 𝓖 𝓡 =
     (tables 𝓤 H 𝓜 𝓡 code.env .C) (tables 𝓤 H 𝓜 𝓡 code.env .Λ) #planner-round code.function (code.unfolded 𝓤 H 𝓜 𝓡)
     (round-meets 𝓤 H (𝓖 .A) 0 Says (givenOf 𝓤 H 𝓜 𝓖) (tablesOf 𝓤 H 𝓜 (tables 𝓤 H 𝓜 𝓡 code.env)) callee.name
     (cited 𝓤 H (Round 𝓤 H (𝓖 .A) 0 Says) 𝓜 𝓡 code.env callee.name callee.routine code.calls-planner·round (callee-thm.met 𝓤 H 𝓜 𝓖 𝓡))
-    (λ h ns before after r. kept))
+    (same-code .0) tt (λ h ns before after r. kept))

@@ -1,5 +1,5 @@
 // Notions that several crates share: deciding, refusals in order, lists in order, an order by three numbers, a number's place among 64 that rise,
-// an id that stands at no earlier place among 64, and a number in more bits.
+// an id that stands at no earlier place among 64, a number in more bits, and the version.
 ghost use mathlib.Core.Path.{_≡_};
 ghost use Prim.Native.Nat.{_+_, _≤_, _<_};
 ghost use Rattle.basics.specs.Decides.{Decides};
@@ -44,6 +44,9 @@ pub const KEY_SPAN_64: u64 = KEY_SPAN as u64;
 pub const BUCKET_COUNT: usize = BUCKETS as usize;
 
 pub const LAST_BUCKET: usize = KEY_SPAN as usize;
+
+// The number of this version, which the libraries for C give.
+pub const VERSION: u32 = 6;
 
 // Whether a number is 1 to a limit.
 pub fn is_one_to(n: u32, most: u32) -> bool

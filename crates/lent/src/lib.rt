@@ -2,6 +2,7 @@
 // A refused call stores nothing (Annex 7.37, 13.6): add, remove and round store the planner only where the answer is 0; open stores always.
 ghost use mathlib.Core.Path.{_≡_};
 ghost use lib.ListN.{length, take};
+ghost use Rattle.basics.specs.Version.{version};
 ghost use Rattle.planner.specs.Open.{setting};
 ghost use Rattle.planner.specs.AddRemove.{offer};
 ghost use Rattle.lent.specs.Lent.{IsLentOpen, IsLentAdd, IsLentRemove, IsLentRound};
@@ -77,4 +78,12 @@ pub extern "C" fn planner_filled(buffer: &[u16], n: u32) -> usize
     ensures { λ r. ⌜ r ≡ length (take n (now (buffer .entry))) ⌝ }
 {
     planner::filled(buffer, n).len()
+}
+
+// Annex 7.40: the number of this version, so that a host can refuse a library of another.
+#[no_mangle]
+pub extern "C" fn planner_version() -> u32
+    ensures { λ r. ⌜ r ≡ version ⌝ }
+{
+    basics::VERSION
 }

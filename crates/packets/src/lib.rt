@@ -3,6 +3,7 @@ ghost use mathlib.Core.Path.{_≡_};
 ghost use lib.ListN.{length};
 ghost use Rattle.basics.specs.Decides.{Decides};
 ghost use Rattle.basics.specs.Refusals.{answer-of};
+ghost use Rattle.basics.specs.Version.{version};
 ghost use Rattle.packets.specs.Good.{IsGood};
 ghost use Rattle.packets.specs.Reading.{read-refusals, IsRead, ids-part};
 ghost use Rattle.packets.specs.Writing.{IsWritten};
@@ -120,4 +121,12 @@ pub extern "C" fn packet_ids_length(packet: &[u8]) -> usize
     ensures { λ r. ⌜ r ≡ length (ids-part (now (packet .entry))) ⌝ }
 {
     packet_ids(packet).len()
+}
+
+// Annex 10.10: the number of this version, so that a host or a head can refuse a library of another.
+#[no_mangle]
+pub extern "C" fn packet_version() -> u32
+    ensures { λ r. ⌜ r ≡ version ⌝ }
+{
+    basics::VERSION
 }

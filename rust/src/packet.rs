@@ -1,0 +1,112 @@
+//! The schedule packet: how a round goes on air, from a host to the heads (Annex 10.1 to 10.8).
+//!
+//! ```
+//! use planner::packet;
+//!
+//! // a host: the round at 2 with two slots, for the heads 1 and 2
+//! let mut buffer = [0; packet::LONGEST];
+//! let sent = packet::write(2, 2, &[1, 2], &mut buffer)?;
+//! assert_eq!(sent, [0, 0, 0, 2, 2, 2, 0, 1, 0, 2]);
+//!
+//! // head 2: whether it sends in this round, and in which slot
+//! let packet = packet::read(sent)?;
+//! assert_eq!(packet.start(), 2);
+//! assert_eq!(packet.ids().position(|id| id == 2), Some(1));
+//! # Ok::<(), planner::Refusal>(())
+//! ```
+
+use crate::refusal::answered;
+use crate::{raw, Refusal};
+
+/// Annex 10.2, 10.3: the bytes of the longest schedule packet, of 64 ids.
+pub const LONGEST: usize = length(64);
+
+/// Annex 10.2: where the ids begin.
+const IDS_FROM: usize = 6;
+
+/// Annex 10.2: the bytes of a schedule packet of n ids.
+const fn length(n: usize) -> usize {
+    IDS_FROM + 2 * n
+}
+
+/// The version of the library's packets that is linked; [`check_version`](crate::check_version)
+/// holds it to this crate's.
+pub fn version() -> u32 {
+    // SAFETY: it takes nothing and gives a number (Annex 7.39 asks nothing of such a call).
+    unsafe { raw::packet_version() }
+}
+
+/// Annex 10.4, 10.5: writes the schedule packet of these values to the front of the buffer, and
+/// gives that part; the later bytes are untouched.
+///
+/// Annex 12.16: what a round of a planner answered, with the planner's slots, is always good.
+///
+/// # Errors
+///
+/// 27 if the values are not good (Annex 10.3): start is above 1,000,000,000, slots is not 1 to 64,
+/// there are more ids than slots, an id is not 1 to 32,767 or stands twice; then 28 if the buffer is
+/// shorter than the packet. Refused, it leaves the whole buffer.
+pub fn write<'a>(
+    start: u32,
+    slots: u32,
+    ids: &[u16],
+    buffer: &'a mut [u8],
+) -> Result<&'a [u8], Refusal> {
+    let (n, room) = (ids.len(), buffer.len());
+    // SAFETY: Annex 7.39: neither pointer is null, that of an empty slice neither, which points
+    // nowhere, is aligned and is not read; both are slices of these lengths, of which the buffer
+    // may be written; an exclusive borrow overlaps nothing, and nobody else has either meanwhile.
+    let answer =
+        unsafe { raw::packet_write(start, slots, ids.as_ptr(), n, buffer.as_mut_ptr(), room) };
+    answered(answer)?;
+    let buffer: &'a [u8] = buffer;
+    // written, it is as long as it has to be, and n is at most 64
+    Ok(buffer.get(..length(n)).unwrap_or(buffer))
+}
+
+/// Annex 10.6, 10.7: reads a schedule packet of just these bytes.
+///
+/// # Errors
+///
+/// 26 if there are fewer than 6 bytes, or other than 6 + 2×n of them where n is byte 5; then 27 if
+/// they are not those of good values (Annex 10.3).
+pub fn read(bytes: &[u8]) -> Result<Packet<'_>, Refusal> {
+    // SAFETY: Annex 7.39: the pointer is not null, that of an empty slice neither, which points
+    // nowhere and is not read; the slice's bytes can be read, and nobody writes them meanwhile.
+    let header = unsafe { raw::packet_read(bytes.as_ptr(), bytes.len()) };
+    answered(header.answer)?;
+    let ids = bytes.get(IDS_FROM..).unwrap_or_default();
+    Ok(Packet {
+        start: header.start,
+        slots: header.slots,
+        ids,
+    })
+}
+
+/// Annex 10.1: a good schedule packet that was read. It borrows the bytes, so that they stay as they
+/// were tested.
+#[derive(Clone, Copy, Debug, PartialEq, Eq)]
+pub struct Packet<'a> {
+    start: u32,
+    slots: u32,
+    ids: &'a [u8],
+}
+
+impl<'a> Packet<'a> {
+    /// The round's start.
+    pub fn start(&self) -> u32 {
+        self.start
+    }
+
+    /// B, the slots of a round; there may be fewer ids.
+    pub fn slots(&self) -> u32 {
+        self.slots
+    }
+
+    /// Annex 10.8: the ids in the order of the round's slots.
+    pub fn ids(&self) -> impl ExactSizeIterator<Item = u16> + Clone + 'a {
+        self.ids
+            .chunks_exact(2)
+            .map(|id| u16::from_be_bytes([id[0], id[1]]))
+    }
+}

@@ -5,6 +5,7 @@
 // So there are packets of ids drawn by chance, and one of 64 ids that have two remainders only, its worst.
 // All run the same packets, in turn in one process, and must agree on each first. A time is of one call, the lower quartile of many short runs.
 // With `CALL IDS HOST CALLS` it makes so many calls alone, for counting instructions.
+use planner::raw::Header;
 use std::hint::black_box;
 use std::time::Instant;
 
@@ -13,32 +14,21 @@ const PACKETS: usize = 16;
 const SLOTS: u32 = 64;
 const START: u32 = 123_456_789;
 
-#[repr(C)]
-#[derive(Clone, Copy, PartialEq, Debug)]
-struct Header {
-    answer: u32,
-    start: u32,
-    slots: u32,
-    n: u32,
-}
-
 const fn refused(answer: u32) -> Header {
     Header { answer, start: 0, slots: 0, n: 0 }
 }
 
+// The library's own calls.
 mod proved {
-    use super::Header;
-
-    extern "C" {
-        fn packet_write(start: u32, slots: u32, ids: *const u16, n: usize, packet: *mut u8, length: usize) -> u32;
-        fn packet_read(packet: *const u8, length: usize) -> Header;
-    }
+    use planner::raw::{packet_read, packet_write, Header};
 
     pub fn write(start: u32, slots: u32, ids: &[u16], packet: &mut [u8]) -> u32 {
+        // SAFETY: two slices of these lengths, the second borrowed for this call alone.
         unsafe { packet_write(start, slots, ids.as_ptr(), ids.len(), packet.as_mut_ptr(), packet.len()) }
     }
 
     pub fn read(packet: &[u8]) -> Header {
+        // SAFETY: a slice of that length.
         unsafe { packet_read(packet.as_ptr(), packet.len()) }
     }
 }

@@ -158,7 +158,7 @@ fn compare(hosts: &Hosts, call: Call, name: &str) {
     for turn in 0..400 {
         let answer = call.of(&mut h.proved);
         assert_eq!(answer, call.of(&mut h.limit), "limit, {name}");
-        assert!(h.proved.bytes() == h.limit.0.bytes(), "limit's bytes, {name}");
+        assert!(h.proved.as_bytes() == h.limit.0.as_bytes(), "limit's bytes, {name}");
         assert_eq!(answer, call.of(&mut h.fast), "fast, {name}");
         assert_eq!(answer, call.of(&mut h.plain), "plain, {name}");
         if turn < 8 {

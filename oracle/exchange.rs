@@ -31,30 +31,11 @@ const LINES: usize = 1_000;
 const LAST_START: u64 = planner::LAST_START;
 const LARGEST: u64 = u32::MAX as u64;
 
-/// The proved library, as C sees it.
+/// The proved library, by the crate's declarations of it.
 mod proved {
     use crate::packet::Read;
-
-    #[repr(C)]
-    struct Answer {
-        answer: u32,
-        start: u32,
-        slots: u32,
-        n: u32,
-    }
-
-    extern "C" {
-        fn packet_write(
-            start: u32,
-            slots: u32,
-            ids: *const u16,
-            n: usize,
-            packet: *mut u8,
-            length: usize,
-        ) -> u32;
-        fn packet_read(packet: *const u8, length: usize) -> Answer;
-        fn packet_ids_length(packet: *const u8, length: usize) -> usize;
-    }
+    // the crate, and not the oracle's module of that name
+    use ::planner::raw::{packet_ids_length, packet_read, packet_write};
 
     pub fn write(start: u32, slots: u32, ids: &[u16], packet: &mut [u8]) -> u32 {
         let (n, length) = (ids.len(), packet.len());

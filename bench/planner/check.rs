@@ -1,16 +1,17 @@
 // Random calls on random planners, and on planners with a damage: `limit` must answer as the proved call does and leave the same bytes.
 // Many streams are due together, released in another order than their ids, since their order shows nothing where all due times differ.
 use super::limit::Limit;
-use super::proved::Planner;
+use super::proved::{hold, open_at, streams, Planner};
 use super::tables::Random;
 use super::{Host, Offer};
+use planner::raw::BYTES;
 
 const PLANNERS: u32 = 2000;
 const CALLS: u32 = 150;
 
 // A place that holds an entry, or one that is free, from x on; x if there is none.
 fn place_from(p: &Planner, x: usize, held: bool) -> usize {
-    (x..x + 64).map(|y| y % 64).find(|y| (p.ids[*y] != 0) == held).unwrap_or(x)
+    (x..x + 64).map(|y| y % 64).find(|y| (p.queue.ids[*y] != 0) == held).unwrap_or(x)
 }
 
 // The releases alone: of a held place, of two of them, of a free place, of two entries that follow each other in a list.
@@ -18,11 +19,11 @@ fn damage_releases(p: &mut Planner, random: &mut Random) {
     let (x, y) = (random.below(64) as usize, random.below(64) as usize);
     let (held, other, free) = (place_from(p, x, true), place_from(p, y, true), place_from(p, x, false));
     match random.below(5) {
-        0 => p.releases[held] = p.releases[held].wrapping_add(1),
-        1 => p.releases[held] = p.releases[held].wrapping_sub(1),
-        2 => p.releases.swap(held, other),
-        3 => p.releases[free] = random.below(1 << 31),
-        _ => p.releases.swap(held, p.next[held] as usize % 64),
+        0 => p.queue.releases[held] = p.queue.releases[held].wrapping_add(1),
+        1 => p.queue.releases[held] = p.queue.releases[held].wrapping_sub(1),
+        2 => p.queue.releases.swap(held, other),
+        3 => p.queue.releases[free] = random.below(1 << 31),
+        _ => p.queue.releases.swap(held, p.queue.next[held] as usize % 64),
     }
 }
 
@@ -30,22 +31,22 @@ fn damage_releases(p: &mut Planner, random: &mut Random) {
 fn link(p: &mut Planner, nodes: &[usize]) {
     for pair in nodes.windows(2) {
         let (x, n) = (pair[0] % 544, pair[1] % 544);
-        (p.next[x], p.prev[n]) = (n as u16, x as u16);
+        (p.queue.next[x], p.queue.prev[n]) = (n as u16, x as u16);
     }
 }
 
 // The order of a list alone, all links matched: two entries exchanged; a free place linked in; the rests of two lists exchanged.
 fn damage_lists(p: &mut Planner, random: &mut Random) {
     let (x, y) = (place_from(p, random.below(64) as usize, true), place_from(p, random.below(64) as usize, true));
-    let (before, after, after_y) = (p.prev[x] as usize, p.next[x] as usize, p.next[y] as usize);
+    let (before, after, after_y) = (p.queue.prev[x] as usize, p.queue.next[x] as usize, p.queue.next[y] as usize);
     match random.below(3) {
         0 => {
-            let after_both = p.next[after % 544] as usize;
+            let after_both = p.queue.next[after % 544] as usize;
             link(p, &[before, after, x, after_both]);
         }
         1 => {
             let free = place_from(p, x, false);
-            (p.keys[free], p.releases[free]) = (p.keys[x], p.releases[x]);
+            (p.queue.keys[free], p.queue.releases[free]) = (p.queue.keys[x], p.queue.releases[x]);
             link(p, &[x, free, after]);
         }
         _ => {
@@ -58,36 +59,40 @@ fn damage_lists(p: &mut Planner, random: &mut Random) {
 fn damage(p: &mut Planner, random: &mut Random) {
     let any = |random: &mut Random| random.below(1 << 31) * 2 + random.below(2);
     let (x, y, node) = (random.below(64) as usize, random.below(64) as usize, random.below(544) as usize);
-    let used = random.below(p.count.clamp(1, 64) as u32) as usize;
+    let used = random.below(p.table.count.clamp(1, 64) as u32) as usize;
     match random.below(29) {
-        0 => p.next[node] = random.below(544) as u16,
-        1 => p.prev[node] = random.below(544) as u16,
-        2 => p.next[x] = random.below(700) as u16,
-        3 => p.prev[x] = p.prev[y],
-        4 => p.keys[x] = p.keys[x].wrapping_add(1),
-        5 => p.keys[x] = p.keys[x].wrapping_add(480),
-        6 => p.ids[x] = p.ids[y],
-        7 => p.ids[x] = random.below(1 << 16) as u16,
-        8 => p.ids.swap(x, y),
-        9 => p.count = 65,
-        10 => p.count = any(random) as usize,
-        11 => p.count = p.count.wrapping_sub(1),
-        12 => p.streams.swap(x, y),
-        13 => p.streams[used].id = any(random),
-        14 => p.streams[used].period = [0, 7, 241, any(random)][random.below(4) as usize],
-        15 => p.streams[used].deadline = [0, 1, 241, any(random)][random.below(4) as usize],
-        16 => p.streams[used].release = [p.last.wrapping_add(240), p.last.wrapping_add(241), 0, u32::MAX, any(random)][random.below(5) as usize],
+        0 => p.queue.next[node] = random.below(544) as u16,
+        1 => p.queue.prev[node] = random.below(544) as u16,
+        2 => p.queue.next[x] = random.below(700) as u16,
+        3 => p.queue.prev[x] = p.queue.prev[y],
+        4 => p.queue.keys[x] = p.queue.keys[x].wrapping_add(1),
+        5 => p.queue.keys[x] = p.queue.keys[x].wrapping_add(480),
+        6 => p.queue.ids[x] = p.queue.ids[y],
+        7 => p.queue.ids[x] = random.below(1 << 16) as u16,
+        8 => p.queue.ids.swap(x, y),
+        9 => p.table.count = 65,
+        10 => p.table.count = any(random) as usize,
+        11 => p.table.count = p.table.count.wrapping_sub(1),
+        12 => p.table.streams.swap(x, y),
+        13 => p.table.streams[used].id = any(random),
+        14 => p.table.streams[used].period = [0, 7, 241, any(random)][random.below(4) as usize],
+        15 => p.table.streams[used].deadline = [0, 1, 241, any(random)][random.below(4) as usize],
+        16 => {
+            let releases = [p.last.wrapping_add(240), p.last.wrapping_add(241), 0, u32::MAX, any(random)];
+            p.table.streams[used].release = releases[random.below(5) as usize];
+        }
         17 => p.slots = [0, 1, 64, 65, any(random)][random.below(5) as usize],
         18 => p.frame = [0, 1, 5040, 5041, any(random)][random.below(5) as usize],
         19 => p.gap = [0, 255, 256, any(random)][random.below(4) as usize],
         20 => p.last = [0, p.last.wrapping_sub(1), p.last.wrapping_add(1), 1_000_000_000, 1_000_000_001, any(random)][random.below(6) as usize],
-        21 => (p.next[x], p.prev[x]) = (x as u16, x as u16),
+        21 => (p.queue.next[x], p.queue.prev[x]) = (x as u16, x as u16),
         22 | 23 => damage_lists(p, random),
         24..=27 => damage_releases(p, random),
         _ => {
-            let i = random.below(size_of::<Planner>() as u32) as usize;
-            let bytes = (p as *mut Planner).cast::<u8>();
-            unsafe { *bytes.add(i) ^= 1 << random.below(8) };
+            let i = random.below(BYTES as u32) as usize;
+            let mut bytes = *p.as_bytes();
+            bytes[i] ^= 1 << random.below(8);
+            *p = Planner::from_bytes(&bytes);
         }
     }
 }
@@ -95,7 +100,7 @@ fn damage(p: &mut Planner, random: &mut Random) {
 // An offer that is due with a stream held, or half a period from now, at any start before that.
 fn due_with_others(p: &Planner, id: u32, period: u32, random: &mut Random) -> Offer {
     let now = p.last.wrapping_add(1);
-    let s = p.streams[random.below(64) as usize];
+    let s = p.table.streams[random.below(64) as usize];
     let due = if s.id == 0 { now.wrapping_add(period / 2) } else { s.release.wrapping_add(s.deadline) };
     let deadline = 1 + random.below(period.min(due.wrapping_sub(now)).max(1));
     Offer { id, start: due.wrapping_sub(deadline), period, deadline }
@@ -122,14 +127,14 @@ fn offered(p: &Planner, held_id: u32, random: &mut Random) -> Offer {
 fn add_both(p: &mut Planner, limit: &mut Limit, offer: Offer) -> u32 {
     let answer = p.add(offer);
     assert_eq!(answer, limit.add(offer), "add");
-    assert!(p.bytes() == limit.0.bytes(), "bytes after an add");
+    assert!(p.as_bytes() == limit.0.as_bytes(), "bytes after an add");
     answer
 }
 
 fn remove_both(p: &mut Planner, limit: &mut Limit, id: u32) -> u32 {
     let answer = p.remove(id);
     assert_eq!(answer, limit.remove(id), "remove");
-    assert!(p.bytes() == limit.0.bytes(), "bytes after a remove");
+    assert!(p.as_bytes() == limit.0.as_bytes(), "bytes after a remove");
     answer
 }
 
@@ -137,14 +142,14 @@ fn remove_both(p: &mut Planner, limit: &mut Limit, id: u32) -> u32 {
 fn round_both(p: &mut Planner, limit: &mut Limit, length: usize) -> (u32, u32) {
     let (mut one, mut other) = ([7u16; 64], [7u16; 64]);
     let before = *p;
-    let held = p.hold(&mut one[..length]);
+    let held = hold(p, &mut one[..length]);
     assert_eq!(held, limit.hold(&mut other[..length]), "round");
     assert_eq!(one, other, "ids");
-    assert!(p.bytes() == limit.0.bytes(), "bytes after a round");
+    assert!(p.as_bytes() == limit.0.as_bytes(), "bytes after a round");
     if held.answer != 0 {
         return (held.answer, 0);
     }
-    let streams = before.streams();
+    let streams = streams(&before);
     let mut by_id: Vec<(u32, u16)> = streams.iter().filter(|s| s[3] <= held.start).map(|s| (s[3] + s[2], s[0] as u16)).collect();
     by_id.sort_unstable();
     (0, u32::from(by_id.iter().zip(&one[..held.n as usize]).any(|(there, id)| there.1 != *id)))
@@ -152,7 +157,7 @@ fn round_both(p: &mut Planner, limit: &mut Limit, length: usize) -> (u32, u32) {
 
 // Makes both the same call.
 fn both(p: &mut Planner, limit: &mut Limit, random: &mut Random) -> (u32, u32) {
-    let held_id = p.streams[random.below(p.count.clamp(1, 64) as u32) as usize % 64].id;
+    let held_id = p.table.streams[random.below(p.table.count.clamp(1, 64) as u32) as usize % 64].id;
     match random.below(6) {
         0 | 1 => (add_both(p, limit, offered(p, held_id, random)), 0),
         2 if random.below(3) == 0 => {
@@ -205,7 +210,7 @@ pub fn check() {
         let frame = [5040, 2520, 240, 12, 1][random.below(5) as usize];
         let last = if k % 20 == 0 { 999_999_000 + random.below(1001) } else { random.below(100_000) };
         let slots = 1 + random.below(if k % 2 == 0 { 4 } else { 64 });
-        let mut p = Planner::open_at(slots, frame, 1 + random.below(255), last);
+        let mut p = open_at(slots, frame, 1 + random.below(255), last);
         let mut limit = Limit(p);
         let filled = k % 2 == 1;
         if filled {

@@ -1,7 +1,7 @@
 // How a round's cost grows: one of streams, slots, busy length and superframe is varied at a time, the number of
 // streams both at light and at full load.
 use super::limit::Limit;
-use super::proved::Planner;
+use super::proved::open;
 use super::tables::{busy_length, of_busy_length, Hosts, Random, GAP, ROUNDS};
 use super::{Host, Offer};
 
@@ -25,7 +25,7 @@ impl Point {
 // `limit`, which leaves the same bytes and takes less time under an instruction counter.
 fn point(varied: &'static str, slots: u32, frame: u32, periods: &[u32]) -> Point {
     let mut random = Random(7);
-    let mut p = Planner::open(slots, frame, GAP);
+    let mut p = open(slots, frame, GAP);
     for (i, period) in periods.iter().enumerate() {
         let offer = |start| Offer { id: i as u32 + 1, start, period: *period, deadline: *period };
         let accepted = (0..10_000).any(|_| p.add(offer(1 + random.below(240))) == 0);

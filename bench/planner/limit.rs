@@ -107,29 +107,29 @@ unsafe fn columns(p: &Planner, c: &mut Columns) -> Option<usize> {
     let mut good = _mm_set1_epi32(-1);
     let mut least = _mm_set1_epi16(FAR);
     let mut before = _mm_setzero_si128();
-    let full = p.count & !7;
+    let full = p.table.count & !7;
     let mut i = 0;
     while i < full {
-        before = eight(p.streams.as_ptr().add(i), i, before, b, c, &mut good, &mut least);
+        before = eight(p.table.streams.as_ptr().add(i), i, before, b, c, &mut good, &mut least);
         i += 8;
     }
-    if full < p.count {
-        let mut rest = [get(&p.streams, full); 8];
+    if full < p.table.count {
+        let mut rest = [get(&p.table.streams, full); 8];
         for k in 1..8 {
             rest[k].id = 40_000 + k as u32;
-            if full + k < p.count {
-                rest[k] = get(&p.streams, full + k);
+            if full + k < p.table.count {
+                rest[k] = get(&p.table.streams, full + k);
             }
         }
         eight(rest.as_ptr(), full, before, b, c, &mut good, &mut least);
-        for k in p.count..full + 8 {
+        for k in p.table.count..full + 8 {
             c.periods[k] = f32::INFINITY;
             c.deadlines[k] = FAR;
             c.releases[k] = FAR;
             c.dues[k] = FAR;
         }
     }
-    if _mm_movemask_epi8(good) != 0xffff || (p.count > 0 && get(&p.streams, p.count - 1).id > 32767) {
+    if _mm_movemask_epi8(good) != 0xffff || (p.table.count > 0 && get(&p.table.streams, p.table.count - 1).id > 32767) {
         return None;
     }
     least = _mm_min_epi16(least, _mm_srli_si128(least, 8));
@@ -153,7 +153,7 @@ static HEADS: Nodes = {
 // How many of the 480 heads are their own neighbours both ways.
 #[inline(always)]
 unsafe fn heads_alone(p: &Planner) -> usize {
-    let (next, prev) = (p.next.as_ptr().add(64), p.prev.as_ptr().add(64));
+    let (next, prev) = (p.queue.next.as_ptr().add(64), p.queue.prev.as_ptr().add(64));
     let mut n = _mm_setzero_si128();
     for k in 0..BUCKETS / 8 {
         let own = _mm_load_si128(HEADS.0.as_ptr().add(8 * k).cast());
@@ -169,7 +169,7 @@ unsafe fn heads_alone(p: &Planner) -> usize {
 unsafe fn places_filled(p: &Planner) -> usize {
     let mut n = _mm_set1_epi16(8);
     for k in 0..8 {
-        n = _mm_add_epi16(n, _mm_cmpeq_epi16(_mm_loadu_si128(p.ids.as_ptr().add(8 * k).cast()), _mm_setzero_si128()));
+        n = _mm_add_epi16(n, _mm_cmpeq_epi16(_mm_loadu_si128(p.queue.ids.as_ptr().add(8 * k).cast()), _mm_setzero_si128()));
     }
     sum_of(n)
 }
@@ -216,14 +216,14 @@ fn rank(release: u32, id: u16) -> u64 {
 fn further(p: &Planner, mut x: usize, id: u16, steps: &mut u32) -> Option<(usize, usize)> {
     loop {
         let at = x;
-        x = get(&p.next, at) as usize;
+        x = get(&p.queue.next, at) as usize;
         if x >= 64 || *steps == 0 {
             return None;
         }
         *steps -= 1;
-        if get(&p.ids, x) == id {
-            let before = get(&p.ids, at);
-            let in_order = before > 0 && rank(get(&p.releases, at), before) < rank(get(&p.releases, x), id);
+        if get(&p.queue.ids, x) == id {
+            let before = get(&p.queue.ids, at);
+            let in_order = before > 0 && rank(get(&p.queue.releases, at), before) < rank(get(&p.queue.releases, x), id);
             return in_order.then_some((at, x));
         }
     }
@@ -238,28 +238,28 @@ fn is_filed(p: &Planner, c: &Columns, rows: &mut [u8; 64]) -> bool {
     // a sound queue needs no more in all, even with 64 streams due together; lists of any links may have no end
     let mut steps = 64 * 63 / 2;
     let (mut begun, mut ended) = (0, 0);
-    for row in 0..p.count {
+    for row in 0..p.table.count {
         let due = get(&c.dues, row) as usize;
         let head = head_of(base, due);
         let id = get(&c.ids, row);
-        let (mut at, mut x) = (head, get(&p.next, head) as usize);
+        let (mut at, mut x) = (head, get(&p.queue.next, head) as usize);
         if x >= 64 {
             return false;
         }
-        if get(&p.ids, x) == id {
+        if get(&p.queue.ids, x) == id {
             begun += 1;
         } else {
             let Some(found) = further(p, x, id, &mut steps) else { return false };
             (at, x) = found;
         }
-        let stream = unsafe { p.streams.get_unchecked(row) };
-        if get(&p.keys, x) != now + due as u32 || get(&p.releases, x) != stream.release || get(&p.prev, x) as usize != at {
+        let stream = unsafe { p.table.streams.get_unchecked(row) };
+        if get(&p.queue.keys, x) != now + due as u32 || get(&p.queue.releases, x) != stream.release || get(&p.queue.prev, x) as usize != at {
             return false;
         }
-        ended += usize::from((get(&p.next, x) as usize == head) & (get(&p.prev, head) as usize == x));
+        ended += usize::from((get(&p.queue.next, x) as usize == head) & (get(&p.queue.prev, head) as usize == x));
         set(rows, x, row as u8);
     }
-    ended == begun && unsafe { places_filled(p) == p.count && heads_alone(p) == BUCKETS - begun }
+    ended == begun && unsafe { places_filled(p) == p.table.count && heads_alone(p) == BUCKETS - begun }
 }
 
 // The sum over the streams of how often a period fits into t.
@@ -370,32 +370,32 @@ fn lazy_start(streams: &[Stream; 64], count: usize, slots: u32, frame: u32, gap:
 #[inline(always)]
 fn in_range(p: &Planner, c: &mut Columns) -> Option<usize> {
     let ranges = p.slots.wrapping_sub(1) < 64 && p.frame.wrapping_sub(1) < 5040 && p.gap.wrapping_sub(1) < 255 && p.last <= 1_000_000_000;
-    if !ranges || p.count > 64 {
+    if !ranges || p.table.count > 64 {
         return None;
     }
     unsafe { columns(p, c) }
 }
 
 fn link_before(p: &mut Planner, x: usize, n: usize) {
-    let before = get(&p.prev, n);
-    set(&mut p.next, before as usize, x as u16);
-    set(&mut p.next, x, n as u16);
-    set(&mut p.prev, n, x as u16);
-    set(&mut p.prev, x, before);
+    let before = get(&p.queue.prev, n);
+    set(&mut p.queue.next, before as usize, x as u16);
+    set(&mut p.queue.next, x, n as u16);
+    set(&mut p.queue.prev, n, x as u16);
+    set(&mut p.queue.prev, x, before);
 }
 
 fn unlink(p: &mut Planner, x: usize) {
-    let (before, after) = (get(&p.prev, x), get(&p.next, x));
-    set(&mut p.next, before as usize, after);
-    set(&mut p.prev, after as usize, before);
+    let (before, after) = (get(&p.queue.prev, x), get(&p.queue.next, x));
+    set(&mut p.queue.next, before as usize, after);
+    set(&mut p.queue.prev, after as usize, before);
 }
 
 // The node before which an entry belongs in the list of a head.
 fn position(p: &Planner, head: usize, release: u32, id: u16) -> usize {
     let own = rank(release, id);
-    let mut n = get(&p.next, head) as usize;
-    while n < 64 && rank(get(&p.releases, n), get(&p.ids, n)) < own {
-        n = get(&p.next, n) as usize;
+    let mut n = get(&p.queue.next, head) as usize;
+    while n < 64 && rank(get(&p.queue.releases, n), get(&p.queue.ids, n)) < own {
+        n = get(&p.queue.next, n) as usize;
     }
     n
 }
@@ -403,13 +403,13 @@ fn position(p: &Planner, head: usize, release: u32, id: u16) -> usize {
 // The packet at place x goes, and its stream's next one is filed there.
 #[inline(always)]
 fn serve(p: &mut Planner, row: usize, x: usize) {
-    let stream = unsafe { p.streams.get_unchecked_mut(row) };
+    let stream = unsafe { p.table.streams.get_unchecked_mut(row) };
     stream.release += stream.period;
     let (release, key) = (stream.release, stream.release + stream.deadline);
-    set(&mut p.keys, x, key);
-    set(&mut p.releases, x, release);
+    set(&mut p.queue.keys, x, key);
+    set(&mut p.queue.releases, x, release);
     unlink(p, x);
-    let n = position(p, 64 + key as usize % BUCKETS, release, get(&p.ids, x));
+    let n = position(p, 64 + key as usize % BUCKETS, release, get(&p.queue.ids, x));
     link_before(p, x, n);
 }
 
@@ -425,11 +425,11 @@ fn serve_all(p: &mut Planner, rows: &[u8; 64], times: [u64; 8], start: u32, buff
         while left != 0 {
             let due = 64 * word + left.trailing_zeros() as usize;
             left &= left - 1;
-            let mut x = get(&p.next, head_of(base, due)) as usize;
+            let mut x = get(&p.queue.next, head_of(base, due)) as usize;
             while x < 64 {
-                let on = get(&p.next, x) as usize;
-                if get(&p.releases, x) <= start {
-                    set(buffer, n, get(&p.ids, x));
+                let on = get(&p.queue.next, x) as usize;
+                if get(&p.queue.releases, x) <= start {
+                    set(buffer, n, get(&p.queue.ids, x));
                     serve(p, get(rows, x) as usize, x);
                     n += 1;
                     if n == slots {
@@ -458,7 +458,7 @@ impl Limit {
         let p = &mut self.0;
         let mut c: Columns = scratch();
         let Some(first) = in_range(p, &mut c) else { return refused(5) };
-        let Some(start) = lazy_start(&p.streams, p.count, p.slots, p.frame, p.gap, &c, first) else { return refused(5) };
+        let Some(start) = lazy_start(&p.table.streams, p.table.count, p.slots, p.frame, p.gap, &c, first) else { return refused(5) };
         let mut rows: [u8; 64] = scratch();
         if !is_filed(p, &c, &mut rows) {
             return refused(5);
@@ -469,7 +469,7 @@ impl Limit {
         if p.last + 1 + start > 1_000_000_000 {
             return refused(17);
         }
-        let times = unsafe { due_times(&c, p.count, start as i16) };
+        let times = unsafe { due_times(&c, p.table.count, start as i16) };
         let start = p.last + 1 + start;
         let n = serve_all(p, &rows, times, start, buffer);
         p.last = start;
@@ -481,9 +481,9 @@ impl Limit {
         let p = &self.0;
         if o.id.wrapping_sub(1) >= 32767 {
             6
-        } else if p.streams[..p.count].iter().any(|s| s.id == o.id) {
+        } else if p.table.streams[..p.table.count].iter().any(|s| s.id == o.id) {
             7
-        } else if p.count == 64 {
+        } else if p.table.count == 64 {
             8
         } else if o.period.wrapping_sub(1) >= 240 || p.frame % o.period != 0 {
             9
@@ -499,23 +499,23 @@ impl Limit {
     // The stream in its row, the later ones one up; in the queue the first free place.
     fn take_in(&mut self, o: Offer) {
         let p = &mut self.0;
-        let mut row = p.count;
-        while row > 0 && get(&p.streams, row - 1).id > o.id {
-            let moved = get(&p.streams, row - 1);
-            set(&mut p.streams, row, moved);
+        let mut row = p.table.count;
+        while row > 0 && get(&p.table.streams, row - 1).id > o.id {
+            let moved = get(&p.table.streams, row - 1);
+            set(&mut p.table.streams, row, moved);
             row -= 1;
         }
-        set(&mut p.streams, row, Stream { id: o.id, period: o.period, deadline: o.deadline, release: o.start });
-        p.count += 1;
+        set(&mut p.table.streams, row, Stream { id: o.id, period: o.period, deadline: o.deadline, release: o.start });
+        p.table.count += 1;
         let mut x = 0;
-        while get(&p.ids, x) != 0 {
+        while get(&p.queue.ids, x) != 0 {
             x += 1;
         }
         let due = o.start + o.deadline;
         let n = position(p, 64 + due as usize % BUCKETS, o.start, o.id as u16);
-        set(&mut p.ids, x, o.id as u16);
-        set(&mut p.keys, x, due);
-        set(&mut p.releases, x, o.start);
+        set(&mut p.queue.ids, x, o.id as u16);
+        set(&mut p.queue.keys, x, due);
+        set(&mut p.queue.releases, x, o.start);
         link_before(p, x, n);
     }
 }
@@ -538,11 +538,11 @@ impl Host for Limit {
         let rules = |streams: &[Stream; 64], count, c: &Columns, first| lazy_start(streams, count, p.slots, p.frame, p.gap, c, first).is_some();
         let refusal = self.offer_refusal(o);
         if refusal != 0 {
-            return if rules(&p.streams, p.count, &c, first) { refusal } else { 5 };
+            return if rules(&p.table.streams, p.table.count, &c, first) { refusal } else { 5 };
         }
         // the rules do not ask for an order of rows: the offer stands in the next one
-        let with = p.count;
-        let mut streams: [Stream; 64] = p.streams;
+        let with = p.table.count;
+        let mut streams: [Stream; 64] = p.table.streams;
         streams[with] = Stream { id: o.id, period: o.period, deadline: o.deadline, release: o.start };
         if with % 8 == 0 {
             for k in with..with + 8 {
@@ -556,7 +556,7 @@ impl Host for Limit {
             return 0;
         }
         (c.periods[with], c.deadlines[with], c.dues[with]) = (f32::INFINITY, FAR, FAR);
-        if !rules(&p.streams, with, &c, first) {
+        if !rules(&p.table.streams, with, &c, first) {
             return 5;
         }
         c.periods[with] = o.period as f32;
@@ -572,20 +572,20 @@ impl Host for Limit {
         let p = &self.0;
         let mut c: Columns = scratch();
         let Some(first) = in_range(p, &mut c) else { return 5 };
-        if !is_filed(p, &c, &mut scratch()) || lazy_start(&p.streams, p.count, p.slots, p.frame, p.gap, &c, first).is_none() {
+        if !is_filed(p, &c, &mut scratch()) || lazy_start(&p.table.streams, p.table.count, p.slots, p.frame, p.gap, &c, first).is_none() {
             return 5;
         }
-        let Some(row) = p.streams[..p.count].iter().position(|s| s.id == id) else { return 14 };
+        let Some(row) = p.table.streams[..p.table.count].iter().position(|s| s.id == id) else { return 14 };
         let p = &mut self.0;
-        p.streams.copy_within(row + 1..p.count, row);
-        p.count -= 1;
-        p.streams[p.count] = Stream { id: 0, period: 0, deadline: 0, release: 0 };
+        p.table.streams.copy_within(row + 1..p.table.count, row);
+        p.table.count -= 1;
+        p.table.streams[p.table.count] = Stream { id: 0, period: 0, deadline: 0, release: 0 };
         let mut x = 0;
-        while u32::from(get(&p.ids, x)) != id {
+        while u32::from(get(&p.queue.ids, x)) != id {
             x += 1;
         }
         unlink(p, x);
-        (p.ids[x], p.keys[x], p.releases[x], p.next[x], p.prev[x]) = (0, 0, 0, 0, 0);
+        (p.queue.ids[x], p.queue.keys[x], p.queue.releases[x], p.queue.next[x], p.queue.prev[x]) = (0, 0, 0, 0, 0);
         0
     }
 }

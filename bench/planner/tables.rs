@@ -5,7 +5,7 @@ use super::analytic::Analytic;
 use super::fast::Fast;
 use super::limit::Limit;
 use super::plain::Plain;
-use super::proved::Planner;
+use super::proved::{open, streams, Planner};
 use super::{Call, Host, Offer};
 
 const FRAME: u32 = 5040;
@@ -44,7 +44,7 @@ pub struct Hosts {
 
 impl Hosts {
     pub fn of(proved: Planner) -> Hosts {
-        let (slots, frame, gap, last, streams) = (proved.slots, proved.frame, proved.gap, proved.last, proved.streams());
+        let (slots, frame, gap, last, streams) = (proved.slots, proved.frame, proved.gap, proved.last, streams(&proved));
         Hosts {
             proved,
             limit: Limit(proved),
@@ -207,7 +207,7 @@ impl Table {
     // All streams, after a long run of rounds.
     fn filled(&self) -> Planner {
         let mut random = Random(11);
-        let mut p = Planner::open(self.slots, FRAME, self.gap);
+        let mut p = open(self.slots, FRAME, self.gap);
         for i in 0..self.periods.len() {
             self.add(&mut p, &mut random, i, None);
         }
@@ -226,7 +226,7 @@ impl Table {
     // All streams but the last, with a crowd: as many with deadline 1 as there are slots; or twice as many at one start, due within 2 and 3 of it.
     fn crowded(&self, crowd: Crowd) -> Option<Planner> {
         let mut random = Random(11);
-        let mut p = Planner::open(self.slots, FRAME, self.gap);
+        let mut p = open(self.slots, FRAME, self.gap);
         let b = self.slots as usize;
         let fewer = self.periods.len() - 1;
         let ones = self.periods[..fewer].iter().filter(|period| **period == 1).count();

@@ -1,16 +1,17 @@
 //! Finds the library: `libplanner.a` in the directory that `PLANNER_LIB_DIR` names; if that is not
 //! set, in `../lib`, where the bundle has it, or in `../target/lib`, where the repository makes it.
-//! Both are seen from this file. A directory that is named is the only one that is looked into.
+//! All are seen from this file. A directory that is named is the only one that is looked into.
 
 use std::env;
-use std::path::{Path, PathBuf};
+use std::path::PathBuf;
 use std::process::ExitCode;
 
 const FILE: &str = "libplanner.a";
 const NAMED: &str = "PLANNER_LIB_DIR";
 
 fn places() -> Vec<PathBuf> {
-    let here = Path::new(env!("CARGO_MANIFEST_DIR"));
+    // cargo runs this in the crate's directory, and says where that is
+    let here = PathBuf::from(env::var_os("CARGO_MANIFEST_DIR").unwrap_or_default());
     match env::var_os(NAMED) {
         Some(named) => vec![here.join(named)],
         None => vec![here.join("../lib"), here.join("../target/lib")],
@@ -22,10 +23,7 @@ fn main() -> ExitCode {
     println!("cargo:rerun-if-env-changed={NAMED}");
     let places = places();
     let Some(found) = places.iter().find(|place| place.join(FILE).is_file()) else {
-        let looked: Vec<String> = places
-            .iter()
-            .map(|place| place.display().to_string())
-            .collect();
+        let looked: Vec<String> = places.iter().map(|place| place.display().to_string()).collect();
         eprintln!(
             "planner: there is no {FILE} in {}: set {NAMED} to the directory that has it, or make it \
              with `bash examples/prove libplanner` in the planner's repository.",

@@ -56,6 +56,13 @@ fn damage_lists(p: &mut Planner, random: &mut Random) {
     }
 }
 
+fn flip_a_bit(p: &mut Planner, random: &mut Random) {
+    let mut bytes = *p.as_bytes();
+    let byte = random.below(BYTES as u32) as usize;
+    bytes[byte] ^= 1 << random.below(8);
+    *p = Planner::from_bytes(&bytes);
+}
+
 fn damage(p: &mut Planner, random: &mut Random) {
     let any = |random: &mut Random| random.below(1 << 31) * 2 + random.below(2);
     let (x, y, node) = (random.below(64) as usize, random.below(64) as usize, random.below(544) as usize);
@@ -88,12 +95,7 @@ fn damage(p: &mut Planner, random: &mut Random) {
         21 => (p.queue.next[x], p.queue.prev[x]) = (x as u16, x as u16),
         22 | 23 => damage_lists(p, random),
         24..=27 => damage_releases(p, random),
-        _ => {
-            let i = random.below(BYTES as u32) as usize;
-            let mut bytes = *p.as_bytes();
-            bytes[i] ^= 1 << random.below(8);
-            *p = Planner::from_bytes(&bytes);
-        }
+        _ => flip_a_bit(p, random),
     }
 }
 

@@ -1,5 +1,5 @@
-// A library that says it is of another version, in its planner or in its packets, and answers 0 to every call: what the crate has to refuse.
-// With --cfg planner its planner is of version 7, with --cfg packets its packets are.
+// A library of another version, for the crate to refuse: with --cfg planner its planner says that it is of version 7, with --cfg packets its packets
+// say so. Whoever asks anything else of it dies, since a library of another version may have another layout.
 #![no_std]
 
 #[no_mangle]
@@ -12,30 +12,7 @@ extern "C" fn packet_version() -> u32 {
     if cfg!(packets) { 7 } else { 6 }
 }
 
-#[repr(C)]
-pub struct Numbers([u32; 3]);
-
-#[no_mangle]
-extern "C" fn planner_open() -> u32 {
-    0
-}
-
-#[no_mangle]
-extern "C" fn planner_add() -> u32 {
-    0
-}
-
-#[no_mangle]
-extern "C" fn planner_round() -> Numbers {
-    Numbers([0; 3])
-}
-
-#[no_mangle]
-extern "C" fn packet_write() -> u32 {
-    0
-}
-
-#[no_mangle]
-extern "C" fn packet_read() -> Numbers {
-    Numbers([0; 3])
-}
+core::arch::global_asm!(
+    ".globl planner_open, planner_add, planner_remove, planner_round, packet_write, packet_read, superframe",
+    "planner_open: planner_add: planner_remove: planner_round: packet_write: packet_read: superframe: ud2",
+);

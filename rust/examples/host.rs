@@ -15,12 +15,7 @@ fn on_air<'a>(planner: &mut Planner, buffer: &'a mut [u8]) -> Result<&'a [u8], R
 /// A head's half: reads the packet.
 fn print_read(bytes: &[u8]) -> Result<(), Refusal> {
     let packet = packet::read(bytes)?;
-    print!(
-        "0,{},{},{}",
-        packet.start(),
-        packet.slots(),
-        packet.ids().len()
-    );
+    print!("0,{},{},{}", packet.start(), packet.slots(), packet.ids().len());
     for id in packet.ids() {
         print!(",{id}");
     }
@@ -29,30 +24,10 @@ fn print_read(bytes: &[u8]) -> Result<(), Refusal> {
 }
 
 fn main() -> Result<(), Refusal> {
-    let mut planner = Planner::open(Setting {
-        slots: 2,
-        frame: 6,
-        gap: 6,
-        last: 0,
-    })?;
-    planner.add(Stream {
-        id: 1,
-        start: 1,
-        period: 3,
-        deadline: 2,
-    })?;
-    planner.add(Stream {
-        id: 2,
-        start: 1,
-        period: 6,
-        deadline: 6,
-    })?;
-    planner.add(Stream {
-        id: 3,
-        start: 2,
-        period: 6,
-        deadline: 5,
-    })?;
+    let mut planner = Planner::open(Setting { slots: 2, frame: 6, gap: 6, last: 0 })?;
+    planner.add(Stream { id: 1, start: 1, period: 3, deadline: 2 })?;
+    planner.add(Stream { id: 2, start: 1, period: 6, deadline: 6 })?;
+    planner.add(Stream { id: 3, start: 2, period: 6, deadline: 5 })?;
     for _ in 0..3 {
         let mut buffer = [0; LONGEST];
         let sent = on_air(&mut planner, &mut buffer)?;

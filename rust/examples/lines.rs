@@ -8,12 +8,7 @@ fn number(answer: Result<(), Refusal>) -> u32 {
 }
 
 fn add(planner: &mut Planner, id: u32, start: u32, period: u32, deadline: u32) {
-    let answer = planner.add(Stream {
-        id,
-        start,
-        period,
-        deadline,
-    });
+    let answer = planner.add(Stream { id, start, period, deadline });
     println!("A,{id},{}", number(answer));
 }
 
@@ -29,12 +24,7 @@ fn hold(planner: &mut Planner) -> Result<(), Refusal> {
 }
 
 fn main() -> Result<(), Refusal> {
-    let mut planner = Planner::open(Setting {
-        slots: 2,
-        frame: 6,
-        gap: 6,
-        last: 0,
-    })?;
+    let mut planner = Planner::open(Setting { slots: 2, frame: 6, gap: 6, last: 0 })?;
     println!("O,0");
     add(&mut planner, 1, 1, 3, 2);
     add(&mut planner, 2, 1, 6, 6);

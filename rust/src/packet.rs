@@ -76,11 +76,7 @@ pub fn read(bytes: &[u8]) -> Result<Packet<'_>, Refusal> {
     let header = unsafe { raw::packet_read(bytes.as_ptr(), bytes.len()) };
     answered(header.answer)?;
     let ids = bytes.get(IDS_FROM..).unwrap_or_default();
-    Ok(Packet {
-        start: header.start,
-        slots: header.slots,
-        ids,
-    })
+    Ok(Packet { start: header.start, slots: header.slots, ids })
 }
 
 /// Annex 10.1: a good schedule packet that was read. It borrows the bytes, so that they stay as they
@@ -105,8 +101,6 @@ impl<'a> Packet<'a> {
 
     /// Annex 10.8: the ids in the order of the round's slots.
     pub fn ids(&self) -> impl ExactSizeIterator<Item = u16> + Clone + 'a {
-        self.ids
-            .chunks_exact(2)
-            .map(|id| u16::from_be_bytes([id[0], id[1]]))
+        self.ids.chunks_exact(2).map(|id| u16::from_be_bytes([id[0], id[1]]))
     }
 }

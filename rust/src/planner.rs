@@ -77,12 +77,7 @@ impl Planner {
     /// is 1 to 5,040, 3 unless gap is 1 to 255, 4 if last is above 1,000,000,000.
     pub fn open(setting: Setting) -> Result<Planner, Refusal> {
         check_version()?;
-        let Setting {
-            slots,
-            frame,
-            gap,
-            last,
-        } = setting;
+        let Setting { slots, frame, gap, last } = setting;
         let mut raw = raw::Planner::ZEROS;
         // SAFETY: Annex 7.39: a planner of our own, written before it is lent, to open too, which
         // nobody else reads or writes.
@@ -99,12 +94,7 @@ impl Planner {
     /// unless the deadline is 1 to the period; 11 unless the start is now to now + 239; 12 if the
     /// table with it breaks the demand rule; 13 if it breaks the start rule.
     pub fn add(&mut self, stream: Stream) -> Result<(), Refusal> {
-        let Stream {
-            id,
-            start,
-            period,
-            deadline,
-        } = stream;
+        let Stream { id, start, period, deadline } = stream;
         // SAFETY: Annex 7.39: a planner whose every byte has a value, exclusively borrowed.
         answered(unsafe { raw::planner_add(&mut self.raw, id, start, period, deadline) })
     }
@@ -140,10 +130,7 @@ impl Planner {
         // Annex 7.34: the first n places, or the whole buffer if n is above its length
         let buffer: &'a [u16] = buffer;
         let ids = buffer.get(..held.n as usize).unwrap_or(buffer);
-        Ok(Round {
-            start: held.start,
-            ids,
-        })
+        Ok(Round { start: held.start, ids })
     }
 
     /// B, the slots of a round.
@@ -176,19 +163,12 @@ impl Planner {
     pub fn streams(&self) -> impl ExactSizeIterator<Item = Record> + Clone + '_ {
         let all = &self.raw.table.streams;
         let held = all.get(..self.raw.table.count).unwrap_or(all);
-        held.iter().map(
-            |&raw::Stream {
-                 id,
-                 period,
-                 deadline,
-                 release,
-             }| Record {
-                id,
-                period,
-                deadline,
-                release,
-            },
-        )
+        held.iter().map(|&raw::Stream { id, period, deadline, release }| Record {
+            id,
+            period,
+            deadline,
+            release,
+        })
     }
 }
 

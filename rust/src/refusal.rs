@@ -95,9 +95,7 @@ impl Refusal {
 
     /// The refusal of a number that the calls of this crate give; none for 0, which is success.
     pub fn from_number(number: u32) -> Option<Refusal> {
-        let known = TABLE_1
-            .iter()
-            .find(|(refusal, _)| refusal.number() == number);
+        let known = TABLE_1.iter().find(|(refusal, _)| refusal.number() == number);
         known.map(|(refusal, _)| *refusal)
     }
 

@@ -4,37 +4,10 @@ use planner::{raw, Planner, Refusal, Setting, Stream};
 
 // The planner of Annex C.1 after its first round.
 fn kept() -> Planner {
-    let mut planner = Planner::open(Setting {
-        slots: 2,
-        frame: 6,
-        gap: 6,
-        last: 0,
-    })
-    .unwrap();
-    planner
-        .add(Stream {
-            id: 1,
-            start: 1,
-            period: 3,
-            deadline: 2,
-        })
-        .unwrap();
-    planner
-        .add(Stream {
-            id: 2,
-            start: 1,
-            period: 6,
-            deadline: 6,
-        })
-        .unwrap();
-    planner
-        .add(Stream {
-            id: 3,
-            start: 2,
-            period: 6,
-            deadline: 5,
-        })
-        .unwrap();
+    let mut planner = Planner::open(Setting { slots: 2, frame: 6, gap: 6, last: 0 }).unwrap();
+    planner.add(Stream { id: 1, start: 1, period: 3, deadline: 2 }).unwrap();
+    planner.add(Stream { id: 2, start: 1, period: 6, deadline: 6 }).unwrap();
+    planner.add(Stream { id: 3, start: 2, period: 6, deadline: 5 }).unwrap();
     assert_eq!(planner.round(&mut [0; 2]).unwrap().ids, [1, 2]);
     planner
 }
@@ -49,20 +22,12 @@ fn the_layout() {
     assert_eq!([0, 4, 8, 12].map(word), [2, 6, 6, 2]);
     assert_eq!(usize::from_ne_bytes(bytes[16..24].try_into().unwrap()), 3);
     let record = |k: usize| [0, 4, 8, 12].map(|field| word(24 + 16 * k + field));
-    assert_eq!(
-        [0, 1, 2].map(record),
-        [[1, 3, 2, 4], [2, 6, 6, 7], [3, 6, 5, 2]]
-    );
+    assert_eq!([0, 1, 2].map(record), [[1, 3, 2, 4], [2, 6, 6, 7], [3, 6, 5, 2]]);
     let raw = planner.as_raw();
     assert_eq!((raw.table.count, raw.table.streams[2].release), (3, 2));
     // Annex 3.11: an entry for each, under its due time and release
     for record in planner.streams() {
-        let place = raw
-            .queue
-            .ids
-            .iter()
-            .position(|id| u32::from(*id) == record.id)
-            .unwrap();
+        let place = raw.queue.ids.iter().position(|id| u32::from(*id) == record.id).unwrap();
         assert_eq!(raw.queue.keys[place], record.release + record.deadline);
         assert_eq!(raw.queue.releases[place], record.release);
     }
@@ -93,12 +58,7 @@ fn is_refused_with_5(raw: raw::Planner) {
     assert_eq!(planner.round(&mut buffer), Err(Refusal::NotSound));
     assert_eq!(planner.round(&mut []), Err(Refusal::NotSound));
     assert_eq!(
-        planner.add(Stream {
-            id: 0,
-            start: 0,
-            period: 0,
-            deadline: 0
-        }),
+        planner.add(Stream { id: 0, start: 0, period: 0, deadline: 0 }),
         Err(Refusal::NotSound)
     );
     assert_eq!(planner.remove(0), Err(Refusal::NotSound));

@@ -16,10 +16,7 @@ fn written(start: u32, slots: u32, ids: &[u16], room: usize) -> Result<Vec<u8>, 
     let mut buffer = vec![0xee; room];
     let answer = write(start, slots, ids, &mut buffer).map(<[u8]>::to_vec);
     let length = answer.as_ref().map_or(0, Vec::len);
-    assert!(
-        buffer[length..].iter().all(|byte| *byte == 0xee),
-        "a byte behind the packet changed"
-    );
+    assert!(buffer[length..].iter().all(|byte| *byte == 0xee), "a byte behind the packet changed");
     if let Ok(packet) = &answer {
         assert_eq!(buffer[..length], packet[..]);
     }
@@ -39,10 +36,7 @@ fn the_packet_of_c_7() {
 #[test]
 fn good_packets() {
     let largest = [0x3b, 0x9a, 0xca, 0x00, 0x40, 0x02, 0x7f, 0xff, 0x01, 0x00];
-    assert_eq!(
-        written(1_000_000_000, 64, &[32_767, 256], 10),
-        Ok(largest.to_vec())
-    );
+    assert_eq!(written(1_000_000_000, 64, &[32_767, 256], 10), Ok(largest.to_vec()));
     assert_eq!(said(&largest), Ok((1_000_000_000, 64, vec![32_767, 256])));
     let empty = [0, 0, 0, 0, 1, 0];
     assert_eq!(written(0, 1, &[], 6), Ok(empty.to_vec()));

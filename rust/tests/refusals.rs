@@ -3,18 +3,8 @@
 
 use planner::{Planner, Refusal, Setting, Stream};
 
-const GOOD: Setting = Setting {
-    slots: 2,
-    frame: 12,
-    gap: 9,
-    last: 100,
-};
-const NEW: Stream = Stream {
-    id: 7,
-    start: 101,
-    period: 12,
-    deadline: 12,
-};
+const GOOD: Setting = Setting { slots: 2, frame: 12, gap: 9, last: 100 };
+const NEW: Stream = Stream { id: 7, start: 101, period: 12, deadline: 12 };
 
 // Annex 7.6: both ends of each range, and one beyond.
 #[test]
@@ -29,60 +19,20 @@ fn open_refuses_1_to_4() {
     for gap in [0, 256] {
         assert_eq!(opened(Setting { gap, ..GOOD }), Err(3));
     }
-    assert_eq!(
-        opened(Setting {
-            last: 1_000_000_001,
-            ..GOOD
-        }),
-        Err(4)
-    );
+    assert_eq!(opened(Setting { last: 1_000_000_001, ..GOOD }), Err(4));
     for (slots, frame, gap, last) in [(1, 1, 1, 0), (64, 5_040, 255, 1_000_000_000)] {
-        assert_eq!(
-            opened(Setting {
-                slots,
-                frame,
-                gap,
-                last
-            }),
-            Ok(())
-        );
+        assert_eq!(opened(Setting { slots, frame, gap, last }), Ok(()));
     }
     // the first that applies
-    assert_eq!(
-        opened(Setting {
-            slots: 0,
-            frame: 0,
-            gap: 0,
-            last: u32::MAX
-        }),
-        Err(1)
-    );
-    assert_eq!(
-        opened(Setting {
-            frame: 0,
-            gap: 0,
-            last: u32::MAX,
-            ..GOOD
-        }),
-        Err(2)
-    );
-    assert_eq!(
-        opened(Setting {
-            gap: 0,
-            last: u32::MAX,
-            ..GOOD
-        }),
-        Err(3)
-    );
+    assert_eq!(opened(Setting { slots: 0, frame: 0, gap: 0, last: u32::MAX }), Err(1));
+    assert_eq!(opened(Setting { frame: 0, gap: 0, last: u32::MAX, ..GOOD }), Err(2));
+    assert_eq!(opened(Setting { gap: 0, last: u32::MAX, ..GOOD }), Err(3));
 }
 
 fn refused_add(planner: &mut Planner, stream: Stream) -> Refusal {
     let before = *planner.as_bytes();
     let refusal = planner.add(stream).unwrap_err();
-    assert!(
-        *planner.as_bytes() == before,
-        "a refused add changed the planner"
-    );
+    assert!(*planner.as_bytes() == before, "a refused add changed the planner");
     refusal
 }
 
@@ -110,50 +60,12 @@ fn add_refuses_6_7_and_9_to_11() {
         assert_eq!(answer(Stream { start, ..NEW }), 11);
     }
     // the first that applies
-    assert_eq!(
-        answer(Stream {
-            id: 0,
-            start: 0,
-            period: 0,
-            deadline: 0
-        }),
-        6
-    );
-    assert_eq!(
-        answer(Stream {
-            id: 1,
-            start: 0,
-            period: 0,
-            deadline: 0
-        }),
-        7
-    );
-    assert_eq!(
-        answer(Stream {
-            start: 0,
-            period: 0,
-            deadline: 0,
-            ..NEW
-        }),
-        9
-    );
-    assert_eq!(
-        answer(Stream {
-            start: 0,
-            deadline: 0,
-            ..NEW
-        }),
-        10
-    );
+    assert_eq!(answer(Stream { id: 0, start: 0, period: 0, deadline: 0 }), 6);
+    assert_eq!(answer(Stream { id: 1, start: 0, period: 0, deadline: 0 }), 7);
+    assert_eq!(answer(Stream { start: 0, period: 0, deadline: 0, ..NEW }), 9);
+    assert_eq!(answer(Stream { start: 0, deadline: 0, ..NEW }), 10);
     // the ends of the ranges are within them
-    planner
-        .add(Stream {
-            id: 32_767,
-            start: 340,
-            period: 12,
-            deadline: 1,
-        })
-        .unwrap();
+    planner.add(Stream { id: 32_767, start: 340, period: 12, deadline: 1 }).unwrap();
 }
 
 // Annex 7.14; 7 before it, 9 after it.
@@ -163,25 +75,9 @@ fn add_refuses_8() {
     for id in 1..=64 {
         planner.add(Stream { id, ..NEW }).unwrap();
     }
-    assert_eq!(
-        refused_add(&mut planner, Stream { id: 65, ..NEW }),
-        Refusal::Full
-    );
-    assert_eq!(
-        refused_add(
-            &mut planner,
-            Stream {
-                id: 65,
-                period: 0,
-                ..NEW
-            }
-        ),
-        Refusal::Full
-    );
-    assert_eq!(
-        refused_add(&mut planner, Stream { id: 64, ..NEW }),
-        Refusal::IdHeld
-    );
+    assert_eq!(refused_add(&mut planner, Stream { id: 65, ..NEW }), Refusal::Full);
+    assert_eq!(refused_add(&mut planner, Stream { id: 65, period: 0, ..NEW }), Refusal::Full);
+    assert_eq!(refused_add(&mut planner, Stream { id: 64, ..NEW }), Refusal::IdHeld);
     assert_eq!(Refusal::Full.number(), 8);
 }
 
@@ -189,61 +85,19 @@ fn add_refuses_8() {
 // one unit. C.2: the demand rule holds, and work was put off.
 #[test]
 fn add_refuses_12_and_13() {
-    let mut planner = Planner::open(Setting {
-        slots: 1,
-        frame: 2,
-        gap: 9,
-        last: 0,
-    })
-    .unwrap();
-    planner
-        .add(Stream {
-            id: 1,
-            start: 1,
-            period: 2,
-            deadline: 1,
-        })
-        .unwrap();
-    let second = Stream {
-        id: 2,
-        start: 2,
-        period: 2,
-        deadline: 1,
-    };
+    let mut planner = Planner::open(Setting { slots: 1, frame: 2, gap: 9, last: 0 }).unwrap();
+    planner.add(Stream { id: 1, start: 1, period: 2, deadline: 1 }).unwrap();
+    let second = Stream { id: 2, start: 2, period: 2, deadline: 1 };
     assert_eq!(refused_add(&mut planner, second), Refusal::BreaksDemand);
 
-    let mut planner = Planner::open(Setting {
-        slots: 1,
-        frame: 10,
-        gap: 20,
-        last: 0,
-    })
-    .unwrap();
+    let mut planner = Planner::open(Setting { slots: 1, frame: 10, gap: 20, last: 0 }).unwrap();
     for id in [1, 2] {
-        planner
-            .add(Stream {
-                id,
-                start: 1,
-                period: 10,
-                deadline: 10,
-            })
-            .unwrap();
+        planner.add(Stream { id, start: 1, period: 10, deadline: 10 }).unwrap();
     }
     planner.round(&mut [0; 1]).unwrap();
-    let third = Stream {
-        id: 3,
-        start: 10,
-        period: 10,
-        deadline: 1,
-    };
+    let third = Stream { id: 3, start: 10, period: 10, deadline: 1 };
     assert_eq!(refused_add(&mut planner, third), Refusal::BreaksStart);
-    assert_eq!(
-        (
-            Refusal::BreaksDemand.number(),
-            Refusal::BreaksStart.number()
-        ),
-        (12, 13)
-    );
+    assert_eq!((Refusal::BreaksDemand.number(), Refusal::BreaksStart.number()), (12, 13));
     // Annex 7.4: nothing is kept of it
     planner.add(Stream { start: 11, ..third }).unwrap();
 }
@@ -269,11 +123,7 @@ fn round_refuses_16() {
     let mut planner = opened();
     for streams in 0..2 {
         let before = *planner.as_bytes();
-        assert_eq!(
-            planner.round(&mut []),
-            Err(Refusal::ShortBuffer),
-            "{streams} streams"
-        );
+        assert_eq!(planner.round(&mut []), Err(Refusal::ShortBuffer), "{streams} streams");
         let mut buffer = [7];
         assert_eq!(planner.round(&mut buffer), Err(Refusal::ShortBuffer));
         assert_eq!(buffer, [7]);
@@ -289,12 +139,7 @@ fn round_refuses_16() {
 // Annex C.4, the clock's end; 16 comes before 17; 7.4: a stream brings the start back.
 #[test]
 fn round_refuses_17() {
-    let late = Setting {
-        slots: 2,
-        frame: 6,
-        gap: 2,
-        last: 999_999_998,
-    };
+    let late = Setting { slots: 2, frame: 6, gap: 2, last: 999_999_998 };
     let mut planner = Planner::open(late).unwrap();
     let before = *planner.as_bytes();
     let mut buffer = [7; 2];
@@ -303,29 +148,16 @@ fn round_refuses_17() {
     assert!(*planner.as_bytes() == before);
     assert_eq!(planner.round(&mut [0]), Err(Refusal::ShortBuffer));
     assert_eq!(Refusal::LateStart.number(), 17);
-    planner
-        .add(Stream {
-            id: 1,
-            start: 999_999_999,
-            period: 6,
-            deadline: 1,
-        })
-        .unwrap();
+    planner.add(Stream { id: 1, start: 999_999_999, period: 6, deadline: 1 }).unwrap();
     assert_eq!(planner.round(&mut buffer).unwrap().start, 999_999_999);
-    let mut planner = Planner::open(Setting {
-        last: 999_999_997,
-        ..late
-    })
-    .unwrap();
+    let mut planner = Planner::open(Setting { last: 999_999_997, ..late }).unwrap();
     assert_eq!(planner.round(&mut buffer).unwrap().start, 1_000_000_000);
 }
 
 // Table 1: which numbers this crate's calls give; 15 is never given, and 20 to 25 are others'.
 #[test]
 fn numbers_and_words() {
-    let given: Vec<u32> = (0..=100)
-        .filter(|n| Refusal::from_number(*n).is_some())
-        .collect();
+    let given: Vec<u32> = (0..=100).filter(|n| Refusal::from_number(*n).is_some()).collect();
     let table: Vec<u32> = (1..=14).chain(16..=19).chain(26..=28).collect();
     assert_eq!(given, table);
     for number in given {
@@ -334,10 +166,7 @@ fn numbers_and_words() {
         assert!(!refusal.to_string().is_empty());
     }
     let refusal: Box<dyn std::error::Error> = Refusal::BadPeriod.into();
-    assert_eq!(
-        refusal.to_string(),
-        "P is not 1 to 240, or does not divide F"
-    );
+    assert_eq!(refusal.to_string(), "P is not 1 to 240, or does not divide F");
     assert_eq!(format!("{:>8}|", Refusal::BadDeadline), "D is not 1 to P|");
     assert_eq!(Refusal::from_number(Refusal::OtherVersion.number()), None);
 }

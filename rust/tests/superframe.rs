@@ -17,11 +17,7 @@ fn least_common_multiples() {
 fn refusals() {
     assert_eq!(superframe(&[240, 7, 11]), Err(Refusal::LongFrame));
     for periods in [&[0][..], &[241], &[12, 255], &[240, 7, 11, 0]] {
-        assert_eq!(
-            superframe(periods),
-            Err(Refusal::BadPeriodOfList),
-            "{periods:?}"
-        );
+        assert_eq!(superframe(periods), Err(Refusal::BadPeriodOfList), "{periods:?}");
     }
     assert_eq!(Refusal::BadPeriodOfList.number(), 18);
     assert_eq!(Refusal::LongFrame.number(), 19);

@@ -26,26 +26,13 @@ pub fn answer(kept: &mut Option<Planner>, line: &str) -> String {
     let numbers: Vec<u32> = fields.map(|field| field.parse().unwrap()).collect();
     match (letter, &numbers[..], kept.as_mut()) {
         ("O", &[slots, frame, gap, last], _) => {
-            let opened = Planner::open(Setting {
-                slots,
-                frame,
-                gap,
-                last,
-            });
+            let opened = Planner::open(Setting { slots, frame, gap, last });
             let answer = number(opened.as_ref().map(|_| ()).map_err(|refusal| *refusal));
             *kept = opened.ok();
             format!("O,{answer}")
         }
         ("A", &[id, start, period, deadline], Some(planner)) => {
-            format!(
-                "A,{id},{}",
-                number(planner.add(Stream {
-                    id,
-                    start,
-                    period,
-                    deadline
-                }))
-            )
+            format!("A,{id},{}", number(planner.add(Stream { id, start, period, deadline })))
         }
         ("D", &[id], Some(planner)) => format!("D,{id},{}", number(planner.remove(id))),
         ("R", [], Some(planner)) => held(planner),
@@ -59,11 +46,6 @@ pub fn answer(kept: &mut Option<Planner>, line: &str) -> String {
 pub fn run(lines: &[(&str, &str)]) {
     let mut kept = None;
     for (count, (line, expected)) in lines.iter().enumerate() {
-        assert_eq!(
-            answer(&mut kept, line),
-            *expected,
-            "line {} is {line}",
-            count + 1
-        );
+        assert_eq!(answer(&mut kept, line), *expected, "line {} is {line}", count + 1);
     }
 }

@@ -25,9 +25,9 @@ fn print_read(bytes: &[u8]) -> Result<(), Refusal> {
 
 fn main() -> Result<(), Refusal> {
     let mut planner = Planner::open(Setting { slots: 2, frame: 6, gap: 6, last: 0 })?;
-    planner.add(Stream { id: 1, start: 1, period: 3, deadline: 2 })?;
-    planner.add(Stream { id: 2, start: 1, period: 6, deadline: 6 })?;
-    planner.add(Stream { id: 3, start: 2, period: 6, deadline: 5 })?;
+    planner.add(Stream { id: 1, release: 1, period: 3, deadline: 2 })?;
+    planner.add(Stream { id: 2, release: 1, period: 6, deadline: 6 })?;
+    planner.add(Stream { id: 3, release: 2, period: 6, deadline: 5 })?;
     for _ in 0..3 {
         let mut buffer = [0; LONGEST];
         let sent = on_air(&mut planner, &mut buffer)?;

@@ -7,8 +7,8 @@ fn number(answer: Result<(), Refusal>) -> u32 {
     answer.map_or_else(Refusal::number, |()| 0)
 }
 
-fn add(planner: &mut Planner, id: u32, start: u32, period: u32, deadline: u32) {
-    let answer = planner.add(Stream { id, start, period, deadline });
+fn add(planner: &mut Planner, id: u32, release: u32, period: u32, deadline: u32) {
+    let answer = planner.add(Stream { id, release, period, deadline });
     println!("A,{id},{}", number(answer));
 }
 

@@ -4,7 +4,7 @@
 //! heads send in it: as late as every deadline allows, earliest deadline first, and of packets due
 //! at the same time the one that waits longest. Any two hosts that keep the annex, the planner's
 //! specification, answer alike on every call, refused ones included. What is said here of a call's
-//! answer, and of what planner and buffer hold after it, is proved of the library that this crate
+//! answer, and of what planner and buffer are after it, is proved of the library that this crate
 //! links; the crate itself is a thin layer over it, and not proved.
 //!
 //! ```
@@ -12,9 +12,9 @@
 //!
 //! // two slots a round, superframe 6, gap 6, as if a round had been held at 0
 //! let mut planner = Planner::open(Setting { slots: 2, frame: 6, gap: 6, last: 0 })?;
-//! planner.add(Stream { id: 1, start: 1, period: 3, deadline: 2 })?;
-//! planner.add(Stream { id: 2, start: 1, period: 6, deadline: 6 })?;
-//! planner.add(Stream { id: 3, start: 2, period: 6, deadline: 5 })?;
+//! planner.add(Stream { id: 1, release: 1, period: 3, deadline: 2 })?;
+//! planner.add(Stream { id: 2, release: 1, period: 6, deadline: 6 })?;
+//! planner.add(Stream { id: 3, release: 2, period: 6, deadline: 5 })?;
 //!
 //! // the next round is at 2, with a slot for head 1 and one for head 2
 //! let mut ids = [0; 64];
@@ -28,7 +28,7 @@
 //!
 //! // a refusal has the number of the annex's table 1, and changes nothing
 //! let refused = planner.remove(9).unwrap_err();
-//! assert_eq!((refused, refused.number()), (Refusal::NotHeld, 14));
+//! assert_eq!((refused, refused.number()), (Refusal::NoStream, 14));
 //! # Ok::<(), Refusal>(())
 //! ```
 //!
@@ -62,7 +62,10 @@ mod refusal;
 mod superframe;
 mod version;
 
-pub use planner::{Planner, Record, Round, Setting, Stream};
+pub use planner::{Planner, Round, Setting, Stream};
 pub use refusal::Refusal;
 pub use superframe::superframe;
-pub use version::{check_version, version, VERSION};
+pub use version::{check_version, version};
+
+/// Annex 7.40: the version that this crate is for, the first number of the crate's own.
+pub const VERSION: u32 = 6;

@@ -29,8 +29,8 @@ const fn length(n: usize) -> usize {
     IDS_FROM + 2 * n
 }
 
-/// The version of the library's packets that is linked; [`check_version`](crate::check_version)
-/// holds it to this crate's.
+/// Annex 10.10: the version of the packets of the library that is linked;
+/// [`check_version`](crate::check_version) compares it with this crate's.
 pub fn version() -> u32 {
     // SAFETY: it takes nothing and gives a number (Annex 7.39 asks nothing of such a call).
     unsafe { raw::packet_version() }
@@ -89,12 +89,12 @@ pub struct Packet<'a> {
 }
 
 impl<'a> Packet<'a> {
-    /// The round's start.
+    /// Annex 10.1: the round's start.
     pub fn start(&self) -> u32 {
         self.start
     }
 
-    /// B, the slots of a round; there may be fewer ids.
+    /// Annex 10.1: B, the slots of a round; there may be fewer ids.
     pub fn slots(&self) -> u32 {
         self.slots
     }

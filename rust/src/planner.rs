@@ -19,30 +19,19 @@ pub struct Setting {
     pub last: u32,
 }
 
-/// Annex 7.10: a stream as it is added. Any numbers may stand here; [`Planner::add`] tests them.
+/// Annex 2.1: a stream, as it is added and as a planner keeps it. Any numbers may stand here;
+/// [`Planner::add`] tests them.
 #[derive(Clone, Copy, Debug, PartialEq, Eq, Hash)]
 pub struct Stream {
     /// The id, 1 to 32,767.
     pub id: u32,
-    /// S, the release of the first packet, now to now + 239.
-    pub start: u32,
-    /// P, the length from a release to the next, 1 to 240.
+    /// The moment from which its first unserved packet may ride: of a stream that is added S, that
+    /// of its first packet, now to now + 239.
+    pub release: u32,
+    /// P, the length from a release to the next, 1 to 240, a divisor of the frame.
     pub period: u32,
     /// D, the length from a release to the due time, 1 to the period.
     pub deadline: u32,
-}
-
-/// Annex 3.2: what a planner keeps of a stream.
-#[derive(Clone, Copy, Debug, PartialEq, Eq, Hash)]
-pub struct Record {
-    /// The id.
-    pub id: u32,
-    /// P, the length from a release to the next.
-    pub period: u32,
-    /// D, the length from a release to the due time.
-    pub deadline: u32,
-    /// The release of the first unserved packet.
-    pub release: u32,
 }
 
 /// Annex 7.28, 7.29: a round that was held.
@@ -58,7 +47,7 @@ pub struct Round<'a> {
 
 /// Annex 3.1: a planner, in the caller's memory: 3,864 bytes, and nothing on a heap.
 ///
-/// There is no `==`: two planners that hold the same may differ in bytes that no answer depends on
+/// There is no `==`: two planners of equal content may differ in bytes that no answer depends on
 /// (Annex 3.13). Whether nothing at all has changed is a comparison of [`Planner::as_bytes`].
 #[derive(Clone)]
 pub struct Planner {
@@ -90,13 +79,13 @@ impl Planner {
     /// # Errors
     ///
     /// The first that applies: 5 if the planner is not sound; 6 unless the id is 1 to 32,767; 7 if
-    /// it is held; 8 with 64 streams; 9 unless the period is 1 to 240 and divides the frame; 10
-    /// unless the deadline is 1 to the period; 11 unless the start is now to now + 239; 12 if the
+    /// a stream has it; 8 with 64 streams; 9 unless the period is 1 to 240 and divides the frame; 10
+    /// unless the deadline is 1 to the period; 11 unless the release is now to now + 239; 12 if the
     /// table with it breaks the demand rule; 13 if it breaks the start rule.
     pub fn add(&mut self, stream: Stream) -> Result<(), Refusal> {
-        let Stream { id, start, period, deadline } = stream;
+        let Stream { id, release, period, deadline } = stream;
         // SAFETY: Annex 7.39: a planner whose every byte has a value, exclusively borrowed.
-        answered(unsafe { raw::planner_add(&mut self.raw, id, start, period, deadline) })
+        answered(unsafe { raw::planner_add(&mut self.raw, id, release, period, deadline) })
     }
 
     /// Annex 7.22, 7.23: takes a stream out, and its unserved packet with it.
@@ -110,14 +99,14 @@ impl Planner {
     }
 
     /// Annex 7.24 to 7.33: holds the next round, and writes its ids to the front of the buffer,
-    /// which needs as many places as a round has slots; 64 are always enough. The later places are
+    /// which needs as many elements as a round has slots; 64 are always enough. The later ones are
     /// untouched.
     ///
     /// With no stream the round is held at last + 1 + gap, with no id.
     ///
     /// # Errors
     ///
-    /// 5 if the planner is not sound; then 16 if the buffer has fewer than `slots` places, even
+    /// 5 if the planner is not sound; then 16 if the buffer has fewer than `slots` elements, even
     /// where there is nothing to write; then 17 if the start is after 1,000,000,000. Refused, it
     /// leaves planner and buffer as they were.
     pub fn round<'a>(&mut self, buffer: &'a mut [u16]) -> Result<Round<'a>, Refusal> {
@@ -127,28 +116,28 @@ impl Planner {
         // nothing read or written there.
         let held = unsafe { raw::planner_round(&mut self.raw, buffer.as_mut_ptr(), buffer.len()) };
         answered(held.answer)?;
-        // Annex 7.34: the first n places, or the whole buffer if n is above its length
+        // Annex 7.34: the first n elements, or the whole buffer if n is above its length
         let buffer: &'a [u16] = buffer;
         let ids = buffer.get(..held.n as usize).unwrap_or(buffer);
         Ok(Round { start: held.start, ids })
     }
 
-    /// B, the slots of a round.
+    /// Annex 3.1: B, the slots of a round.
     pub fn slots(&self) -> u32 {
         self.raw.slots
     }
 
-    /// F, the superframe.
+    /// Annex 3.1: F, the superframe.
     pub fn frame(&self) -> u32 {
         self.raw.frame
     }
 
-    /// G, the most units from the end of a round to the next start.
+    /// Annex 3.1, 4.5: G, the most units from the end of a round to the next start.
     pub fn gap(&self) -> u32 {
         self.raw.gap
     }
 
-    /// L, the start of the last round.
+    /// Annex 3.1: L, the start of the last round.
     pub fn last(&self) -> u32 {
         self.raw.last
     }
@@ -158,16 +147,16 @@ impl Planner {
         self.raw.last.saturating_add(1)
     }
 
-    /// Annex 3.3: what is kept of the streams, by ascending id. (Of a planner that is not sound, as
-    /// many of its 64 places as its count says.)
-    pub fn streams(&self) -> impl ExactSizeIterator<Item = Record> + Clone + '_ {
+    /// Annex 3.2, 3.3: the streams by ascending id, each with the release of its first unserved
+    /// packet. (Of a planner that is not sound, as many of its 64 places as its count says.)
+    pub fn streams(&self) -> impl ExactSizeIterator<Item = Stream> + Clone + '_ {
         let all = &self.raw.table.streams;
-        let held = all.get(..self.raw.table.count).unwrap_or(all);
-        held.iter().map(|&raw::Stream { id, period, deadline, release }| Record {
-            id,
-            period,
-            deadline,
-            release,
+        let streams = all.get(..self.raw.table.count).unwrap_or(all).iter();
+        streams.map(|s| Stream {
+            id: s.id,
+            release: s.release,
+            period: s.period,
+            deadline: s.deadline,
         })
     }
 }
@@ -175,32 +164,32 @@ impl Planner {
 /// A host that takes over from another of the same kind gets a planner's bytes, whole (Annex 7.38).
 ///
 /// Any bytes may be handed in. That is safe, since no byte of a planner is padding and every bit
-/// pattern is a value, and since each of add, remove and round tests the whole planner first and
-/// refuses one that is not sound with 5, at no price beside what a call costs anyway. A planner that
-/// was damaged and is still sound is used as it stands: who has to find every damage keeps a
-/// checksum beside the bytes (Annex 13.7).
+/// pattern is a value, and since each of add, remove and round tests the whole planner first, as it
+/// does anyway, and refuses one that is not sound with 5. A planner that was damaged and is still
+/// sound is used as it stands: who has to find every damage keeps a checksum beside the bytes
+/// (Annex 13.7).
 impl Planner {
     /// Annex 7.38: the bytes, numbers in the machine's own order, for a host that takes over.
     pub fn as_bytes(&self) -> &[u8; Planner::BYTES] {
         self.raw.as_bytes()
     }
 
-    /// The planner of these bytes, sound or not.
+    /// Annex 7.38: the planner of these bytes, sound or not.
     ///
     /// # Errors
     ///
-    /// [`Refusal::OtherVersion`] ([`check_version`]). That the bytes were kept by this version is
-    /// not tested, since nothing in them says so (Annex 13.8).
+    /// [`Refusal::OtherVersion`] ([`check_version`]). That this version made the bytes is not
+    /// tested, since nothing in them says so (Annex 13.8).
     pub fn from_bytes(bytes: &[u8; Planner::BYTES]) -> Result<Planner, Refusal> {
         Planner::from_raw(raw::Planner::from_bytes(bytes))
     }
 
-    /// What the library sees of it.
+    /// Annex 7.38: what the library sees of it.
     pub fn as_raw(&self) -> &raw::Planner {
         &self.raw
     }
 
-    /// The planner of these fields, sound or not.
+    /// Annex 7.38: the planner of these fields, sound or not.
     ///
     /// # Errors
     ///
@@ -211,7 +200,7 @@ impl Planner {
     }
 }
 
-/// The four numbers and how many streams are held.
+/// The four numbers and how many streams there are.
 impl fmt::Debug for Planner {
     fn fmt(&self, f: &mut fmt::Formatter<'_>) -> fmt::Result {
         f.debug_struct("Planner")

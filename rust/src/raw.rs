@@ -9,17 +9,17 @@
 //!
 //! Nothing checks these declarations against the library (Annex 13.5). Whoever calls a function of
 //! this module keeps Annex 7.39: no pointer is null, also where a length is 0, and each is aligned
-//! for its type; each points to as many places as are passed, which can be read, and written where
-//! a call writes; a planner's memory has been written before it is lent, to `planner_open` too;
+//! for its type; each points to as many elements as are passed, which can be read, and written
+//! where a call writes; a planner's memory has been written before it is lent, to `planner_open` too;
 //! buffers, ids, packets and planners do not overlap; nobody else reads or writes them during a
 //! call. Of values nothing is asked (Annex 7.1).
 
 use core::mem::{align_of, offset_of, size_of, transmute};
 
-/// Annex 3.6, 8.6: the places of a table for streams, and of a queue for entries.
+/// Annex 3.6, 8.6: the places of a planner for records, and of its queue for entries.
 pub const PLACES: usize = 64;
 
-/// Annex 8.6: the nodes of a queue, its places and the heads of its 480 buckets.
+/// Annex 8.6: the nodes of a queue, its places and the nodes of its 480 buckets.
 pub const NODES: usize = 544;
 
 /// Annex 7.38: the bytes of a planner.
@@ -43,9 +43,9 @@ pub struct Stream {
 #[repr(C)]
 #[derive(Clone, Copy, Debug, PartialEq, Eq)]
 pub struct Table {
-    /// How many streams are held; a planner with more than 64 is not sound.
+    /// How many streams there are; a planner with more than 64 is not sound.
     pub count: usize,
-    /// The places; of those from `count` on no answer depends.
+    /// The places; no answer depends on those from `count` on.
     pub streams: [Stream; PLACES],
 }
 
@@ -161,11 +161,11 @@ const _: () = {
 };
 
 extern "C" {
-    /// Annex 7.5 to 7.9: opens the planner, whatever it held; refuses 1 to 4.
+    /// Annex 7.5 to 7.9: opens the planner, whatever its content; refuses 1 to 4.
     pub fn planner_open(p: *mut Planner, slots: u32, frame: u32, gap: u32, last: u32) -> u32;
 
     /// Annex 7.10 to 7.20: adds a stream; refuses 5 to 13.
-    pub fn planner_add(p: *mut Planner, id: u32, start: u32, period: u32, deadline: u32) -> u32;
+    pub fn planner_add(p: *mut Planner, id: u32, release: u32, period: u32, deadline: u32) -> u32;
 
     /// Annex 7.22, 7.23: takes a stream out; refuses 5 and 14.
     pub fn planner_remove(p: *mut Planner, id: u32) -> u32;
@@ -173,10 +173,10 @@ extern "C" {
     /// Annex 7.24 to 7.33: holds the next round; refuses 5, 16 and 17.
     pub fn planner_round(p: *mut Planner, buffer: *mut u16, length: usize) -> Held;
 
-    /// Annex 7.36: how many places of the buffer a round that answered n has filled.
+    /// Annex 7.36: how many elements of the buffer a round that answered n has filled.
     pub fn planner_filled(buffer: *const u16, length: usize, n: u32) -> usize;
 
-    /// The version of the planner's calls.
+    /// Annex 7.40: the version of the planner's calls.
     pub fn planner_version() -> u32;
 
     /// Annex 10.4, 10.5: writes a schedule packet; refuses 27 and 28.
@@ -195,7 +195,7 @@ extern "C" {
     /// Annex 10.8: how many bytes the ids take, from byte 6 on; 0 where the packet is refused.
     pub fn packet_ids_length(packet: *const u8, length: usize) -> usize;
 
-    /// The version of the packet calls.
+    /// Annex 10.10: the version of the packet calls.
     pub fn packet_version() -> u32;
 
     /// Annex 9.1 to 9.6: the superframe of these periods: the answer times 65,536, plus the value.

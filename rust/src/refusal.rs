@@ -25,22 +25,22 @@ pub enum Refusal {
     /// Annex 7.12: the id is not 1 to 32,767.
     BadId = 6,
     /// Annex 7.13: a record has the id.
-    IdHeld = 7,
-    /// Annex 7.14: 64 records are held.
+    IdTaken = 7,
+    /// Annex 7.14: the table has 64 records.
     Full = 8,
     /// Annex 7.15: `period`, P, is not 1 to 240, or does not divide `frame`.
     BadPeriod = 9,
     /// Annex 7.16: `deadline`, D, is not 1 to `period`.
     BadDeadline = 10,
-    /// Annex 7.17: `start`, S, is not now to now + 239.
-    BadStart = 11,
+    /// Annex 7.17: `release`, S, is not now to now + 239.
+    BadRelease = 11,
     /// Annex 7.18: the table with it breaks the demand rule.
     BreaksDemand = 12,
     /// Annex 7.19: the table with it breaks the start rule.
     BreaksStart = 13,
     /// Annex 7.22: no record has the id.
-    NotHeld = 14,
-    /// Annex 7.26: the buffer has fewer than `slots` places.
+    NoStream = 14,
+    /// Annex 7.26: the buffer has fewer than `slots` elements.
     ShortBuffer = 16,
     /// Annex 7.27: the lazy start is after 1,000,000,000.
     LateStart = 17,
@@ -54,8 +54,8 @@ pub enum Refusal {
     BadValues = 27,
     /// Annex 10.4: the buffer is shorter than the packet.
     ShortPacketBuffer = 28,
-    /// Annex 13.8: the library is not of this crate's version, and nothing was asked of it; or it
-    /// gave a number that no call of this version gives. No answer of the annex.
+    /// Annex 7.40, 10.10: the library is of another version than this crate, and nothing else was
+    /// asked of it; or it gave a number that no call of this version gives. No answer of the annex.
     OtherVersion = u32::MAX,
 }
 
@@ -69,15 +69,15 @@ const TABLE_1: [(Refusal, &str); 21] = [
     (BadLast, "T is above 1,000,000,000"),
     (NotSound, "the planner is not sound"),
     (BadId, "the id is not 1 to 32,767"),
-    (IdHeld, "a record has the id"),
-    (Full, "64 records are held"),
+    (IdTaken, "a record has the id"),
+    (Full, "the table has 64 records"),
     (BadPeriod, "P is not 1 to 240, or does not divide F"),
     (BadDeadline, "D is not 1 to P"),
-    (BadStart, "S is not now to now + 239"),
+    (BadRelease, "S is not now to now + 239"),
     (BreaksDemand, "the table with it breaks the demand rule"),
     (BreaksStart, "the table with it breaks the start rule"),
-    (NotHeld, "no record has the id"),
-    (ShortBuffer, "the buffer has fewer than B places"),
+    (NoStream, "no record has the id"),
+    (ShortBuffer, "the buffer has fewer than B elements"),
     (LateStart, "the lazy start is after 1,000,000,000"),
     (BadPeriodOfList, "a period of the list is not 1 to 240"),
     (LongFrame, "the least common multiple is above 5,040"),
@@ -87,7 +87,7 @@ const TABLE_1: [(Refusal, &str); 21] = [
 ];
 
 impl Refusal {
-    /// Its number in table 1 of the annex, by which hosts are compared. That of
+    /// Annex 7.2: its number in table 1, by which hosts are compared. That of
     /// [`Refusal::OtherVersion`] is 4,294,967,295, which no call gives.
     pub const fn number(self) -> u32 {
         self as u32

@@ -1,23 +1,23 @@
-//! Which version of the planner crate and library are.
+//! Which version the library is of.
 
-use crate::{raw, Refusal};
+use crate::{raw, Refusal, VERSION};
 
-/// The version that this crate is for: the first number of 6.0.0.
-pub const VERSION: u32 = 6;
-
-/// The version of the library that is linked.
+/// Annex 7.40: the version of the library that is linked.
 pub fn version() -> u32 {
     // SAFETY: it takes nothing and gives a number (Annex 7.39 asks nothing of such a call).
     unsafe { raw::planner_version() }
 }
 
-/// Refuses a library of another version, in its planner or in its packets, with
-/// [`Refusal::OtherVersion`].
+/// Annex 7.40, 10.10: refuses a library of another version, in its planner or in its packets.
 ///
-/// Annex 13.8: hosts of two versions part, and nothing in a planner says which version kept it; one
+/// Annex 13.8: hosts of two versions part, and nothing in a planner says which version made it; one
 /// of another version may have another layout. So [`Planner::open`], [`Planner::from_bytes`] and
 /// [`Planner::from_raw`] ask this first: a planner exists only over a library of its version, and
 /// no later call asks again. Whoever uses packets alone, as a head does, asks it once.
+///
+/// # Errors
+///
+/// [`Refusal::OtherVersion`].
 ///
 /// [`Planner::open`]: crate::Planner::open
 /// [`Planner::from_bytes`]: crate::Planner::from_bytes

@@ -5,9 +5,9 @@ use planner::{raw, Planner, Refusal, Setting, Stream};
 // The planner of Annex C.1 after its first round.
 fn kept() -> Planner {
     let mut planner = Planner::open(Setting { slots: 2, frame: 6, gap: 6, last: 0 }).unwrap();
-    planner.add(Stream { id: 1, start: 1, period: 3, deadline: 2 }).unwrap();
-    planner.add(Stream { id: 2, start: 1, period: 6, deadline: 6 }).unwrap();
-    planner.add(Stream { id: 3, start: 2, period: 6, deadline: 5 }).unwrap();
+    planner.add(Stream { id: 1, release: 1, period: 3, deadline: 2 }).unwrap();
+    planner.add(Stream { id: 2, release: 1, period: 6, deadline: 6 }).unwrap();
+    planner.add(Stream { id: 3, release: 2, period: 6, deadline: 5 }).unwrap();
     assert_eq!(planner.round(&mut [0; 2]).unwrap().ids, [1, 2]);
     planner
 }
@@ -26,10 +26,10 @@ fn the_layout() {
     let raw = planner.as_raw();
     assert_eq!((raw.table.count, raw.table.streams[2].release), (3, 2));
     // Annex 3.11: an entry for each, under its due time and release
-    for record in planner.streams() {
-        let place = raw.queue.ids.iter().position(|id| u32::from(*id) == record.id).unwrap();
-        assert_eq!(raw.queue.keys[place], record.release + record.deadline);
-        assert_eq!(raw.queue.releases[place], record.release);
+    for stream in planner.streams() {
+        let place = raw.queue.ids.iter().position(|id| u32::from(*id) == stream.id).unwrap();
+        assert_eq!(raw.queue.keys[place], stream.release + stream.deadline);
+        assert_eq!(raw.queue.releases[place], stream.release);
     }
 }
 
@@ -58,7 +58,7 @@ fn is_refused_with_5(raw: raw::Planner) {
     assert_eq!(planner.round(&mut buffer), Err(Refusal::NotSound));
     assert_eq!(planner.round(&mut []), Err(Refusal::NotSound));
     assert_eq!(
-        planner.add(Stream { id: 0, start: 0, period: 0, deadline: 0 }),
+        planner.add(Stream { id: 0, release: 0, period: 0, deadline: 0 }),
         Err(Refusal::NotSound)
     );
     assert_eq!(planner.remove(0), Err(Refusal::NotSound));
@@ -98,7 +98,7 @@ fn a_damaged_planner_is_refused() {
     assert_eq!(whole.round(&mut [0; 2]).unwrap().start, 5);
 }
 
-// Any bytes are allowed: all of one value, and a planner's bytes one place on.
+// Any bytes are allowed: all of one value, and a planner's moved on by one.
 #[test]
 fn bytes_of_no_planner_are_refused() {
     for byte in 0..=255 {

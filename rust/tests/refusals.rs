@@ -4,7 +4,7 @@
 use planner::{Planner, Refusal, Setting, Stream};
 
 const GOOD: Setting = Setting { slots: 2, frame: 12, gap: 9, last: 100 };
-const NEW: Stream = Stream { id: 7, start: 101, period: 12, deadline: 12 };
+const NEW: Stream = Stream { id: 7, release: 101, period: 12, deadline: 12 };
 
 // Annex 7.6: both ends of each range, and one beyond.
 #[test]
@@ -56,16 +56,16 @@ fn add_refuses_6_7_and_9_to_11() {
     for deadline in [0, 13] {
         assert_eq!(answer(Stream { deadline, ..NEW }), 10);
     }
-    for start in [100, 341] {
-        assert_eq!(answer(Stream { start, ..NEW }), 11);
+    for release in [100, 341] {
+        assert_eq!(answer(Stream { release, ..NEW }), 11);
     }
     // the first that applies
-    assert_eq!(answer(Stream { id: 0, start: 0, period: 0, deadline: 0 }), 6);
-    assert_eq!(answer(Stream { id: 1, start: 0, period: 0, deadline: 0 }), 7);
-    assert_eq!(answer(Stream { start: 0, period: 0, deadline: 0, ..NEW }), 9);
-    assert_eq!(answer(Stream { start: 0, deadline: 0, ..NEW }), 10);
+    assert_eq!(answer(Stream { id: 0, release: 0, period: 0, deadline: 0 }), 6);
+    assert_eq!(answer(Stream { id: 1, release: 0, period: 0, deadline: 0 }), 7);
+    assert_eq!(answer(Stream { release: 0, period: 0, deadline: 0, ..NEW }), 9);
+    assert_eq!(answer(Stream { release: 0, deadline: 0, ..NEW }), 10);
     // the ends of the ranges are within them
-    planner.add(Stream { id: 32_767, start: 340, period: 12, deadline: 1 }).unwrap();
+    planner.add(Stream { id: 32_767, release: 340, period: 12, deadline: 1 }).unwrap();
 }
 
 // Annex 7.14; 7 before it, 9 after it.
@@ -77,29 +77,29 @@ fn add_refuses_8() {
     }
     assert_eq!(refused_add(&mut planner, Stream { id: 65, ..NEW }), Refusal::Full);
     assert_eq!(refused_add(&mut planner, Stream { id: 65, period: 0, ..NEW }), Refusal::Full);
-    assert_eq!(refused_add(&mut planner, Stream { id: 64, ..NEW }), Refusal::IdHeld);
+    assert_eq!(refused_add(&mut planner, Stream { id: 64, ..NEW }), Refusal::IdTaken);
     assert_eq!(Refusal::Full.number(), 8);
 }
 
 // Annex C.4: B = 1, F = 2: two streams of period 2 and deadline 1 are more than one slot carries in
-// one unit. C.2: the demand rule holds, and work was put off.
+// one unit. C.2: the demand rule is kept, and work was put off.
 #[test]
 fn add_refuses_12_and_13() {
     let mut planner = Planner::open(Setting { slots: 1, frame: 2, gap: 9, last: 0 }).unwrap();
-    planner.add(Stream { id: 1, start: 1, period: 2, deadline: 1 }).unwrap();
-    let second = Stream { id: 2, start: 2, period: 2, deadline: 1 };
+    planner.add(Stream { id: 1, release: 1, period: 2, deadline: 1 }).unwrap();
+    let second = Stream { id: 2, release: 2, period: 2, deadline: 1 };
     assert_eq!(refused_add(&mut planner, second), Refusal::BreaksDemand);
 
     let mut planner = Planner::open(Setting { slots: 1, frame: 10, gap: 20, last: 0 }).unwrap();
     for id in [1, 2] {
-        planner.add(Stream { id, start: 1, period: 10, deadline: 10 }).unwrap();
+        planner.add(Stream { id, release: 1, period: 10, deadline: 10 }).unwrap();
     }
     planner.round(&mut [0; 1]).unwrap();
-    let third = Stream { id: 3, start: 10, period: 10, deadline: 1 };
+    let third = Stream { id: 3, release: 10, period: 10, deadline: 1 };
     assert_eq!(refused_add(&mut planner, third), Refusal::BreaksStart);
     assert_eq!((Refusal::BreaksDemand.number(), Refusal::BreaksStart.number()), (12, 13));
     // Annex 7.4: nothing is kept of it
-    planner.add(Stream { start: 11, ..third }).unwrap();
+    planner.add(Stream { release: 11, ..third }).unwrap();
 }
 
 // Annex 7.22: 14 for any number that no stream has, and not 6.
@@ -109,12 +109,12 @@ fn remove_refuses_14() {
     planner.add(NEW).unwrap();
     let before = *planner.as_bytes();
     for id in [0, 8, 40_000, 65_543, u32::MAX] {
-        assert_eq!(planner.remove(id), Err(Refusal::NotHeld));
+        assert_eq!(planner.remove(id), Err(Refusal::NoStream));
     }
     assert!(*planner.as_bytes() == before);
-    assert_eq!(Refusal::NotHeld.number(), 14);
+    assert_eq!(Refusal::NoStream.number(), 14);
     planner.remove(NEW.id).unwrap();
-    assert_eq!(planner.remove(NEW.id), Err(Refusal::NotHeld));
+    assert_eq!(planner.remove(NEW.id), Err(Refusal::NoStream));
 }
 
 // Annex 7.26: a buffer shorter than B, also where there is nothing to write; an empty one too.
@@ -148,7 +148,7 @@ fn round_refuses_17() {
     assert!(*planner.as_bytes() == before);
     assert_eq!(planner.round(&mut [0]), Err(Refusal::ShortBuffer));
     assert_eq!(Refusal::LateStart.number(), 17);
-    planner.add(Stream { id: 1, start: 999_999_999, period: 6, deadline: 1 }).unwrap();
+    planner.add(Stream { id: 1, release: 999_999_999, period: 6, deadline: 1 }).unwrap();
     assert_eq!(planner.round(&mut buffer).unwrap().start, 999_999_999);
     let mut planner = Planner::open(Setting { last: 999_999_997, ..late }).unwrap();
     assert_eq!(planner.round(&mut buffer).unwrap().start, 1_000_000_000);

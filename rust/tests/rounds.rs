@@ -3,7 +3,7 @@
 mod lines;
 
 use lines::run;
-use planner::{Planner, Record, Setting, Stream};
+use planner::{Planner, Setting, Stream};
 
 #[test]
 fn three_rounds_of_c_1() {
@@ -102,11 +102,11 @@ fn what_is_kept() {
     assert_eq!((planner.last(), planner.now()), (0, 1));
     assert_eq!(planner.streams().len(), 0);
     // not in the order of their ids
-    planner.add(Stream { id: 3, start: 2, period: 6, deadline: 5 }).unwrap();
-    planner.add(Stream { id: 1, start: 1, period: 3, deadline: 2 }).unwrap();
-    planner.add(Stream { id: 2, start: 1, period: 6, deadline: 6 }).unwrap();
+    planner.add(Stream { id: 3, release: 2, period: 6, deadline: 5 }).unwrap();
+    planner.add(Stream { id: 1, release: 1, period: 3, deadline: 2 }).unwrap();
+    planner.add(Stream { id: 2, release: 1, period: 6, deadline: 6 }).unwrap();
     let releases = |planner: &Planner| -> Vec<(u32, u32)> {
-        planner.streams().map(|record| (record.id, record.release)).collect()
+        planner.streams().map(|stream| (stream.id, stream.release)).collect()
     };
     assert_eq!(releases(&planner), [(1, 1), (2, 1), (3, 2)]);
     for (start, kept) in [
@@ -119,16 +119,16 @@ fn what_is_kept() {
         assert_eq!(releases(&planner), kept);
     }
     planner.remove(2).unwrap();
-    let kept: Vec<Record> = planner.streams().collect();
-    let first = Record { id: 1, period: 3, deadline: 2, release: 10 };
-    assert_eq!(kept, [first, Record { id: 3, period: 6, deadline: 5, release: 8 }]);
+    let kept: Vec<Stream> = planner.streams().collect();
+    let first = Stream { id: 1, release: 10, period: 3, deadline: 2 };
+    assert_eq!(kept, [first, Stream { id: 3, release: 8, period: 6, deadline: 5 }]);
 }
 
-// Annex 7.24, 7.29: the ids stand at the front of the buffer, and the later places are untouched.
+// Annex 7.24, 7.29: the ids stand at the front of the buffer, and the later elements are untouched.
 #[test]
 fn ids_are_the_buffers_front() {
     let mut planner = Planner::open(Setting { slots: 2, frame: 12, gap: 20, last: 0 }).unwrap();
-    planner.add(Stream { id: 32_767, start: 1, period: 12, deadline: 12 }).unwrap();
+    planner.add(Stream { id: 32_767, release: 1, period: 12, deadline: 12 }).unwrap();
     let mut buffer = [7; 3];
     let round = planner.round(&mut buffer).unwrap();
     assert_eq!((round.start, round.ids), (12, &[32_767][..]));
@@ -140,7 +140,7 @@ fn ids_are_the_buffers_front() {
 fn a_clone_is_another_planner() {
     let mut one = Planner::open(Setting { slots: 1, frame: 12, gap: 20, last: 0 }).unwrap();
     for id in [9, 4, 7] {
-        one.add(Stream { id, start: 1, period: 12, deadline: 8 }).unwrap();
+        one.add(Stream { id, release: 1, period: 12, deadline: 8 }).unwrap();
     }
     let mut other = one.clone();
     for expected in [(6, 4), (7, 7), (8, 9)] {

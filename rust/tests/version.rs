@@ -4,7 +4,6 @@ use planner::{check_version, packet, raw, version, Planner, Refusal, Setting, VE
 
 #[test]
 fn versions_agree() {
-    assert_eq!(VERSION, 6);
     assert_eq!((version(), packet::version()), (VERSION, VERSION));
     assert_eq!(check_version(), Ok(()));
     assert!(env!("CARGO_PKG_VERSION").starts_with(&format!("{VERSION}.")));

@@ -31,8 +31,8 @@ pub fn answer(kept: &mut Option<Planner>, line: &str) -> String {
             *kept = opened.ok();
             format!("O,{answer}")
         }
-        ("A", &[id, start, period, deadline], Some(planner)) => {
-            format!("A,{id},{}", number(planner.add(Stream { id, start, period, deadline })))
+        ("A", &[id, release, period, deadline], Some(planner)) => {
+            format!("A,{id},{}", number(planner.add(Stream { id, release, period, deadline })))
         }
         ("D", &[id], Some(planner)) => format!("D,{id},{}", number(planner.remove(id))),
         ("R", [], Some(planner)) => held(planner),

@@ -46,6 +46,7 @@ pub fn version() -> u32 {
 /// 27 if the values are not good (Annex 10.3): start is above 1,000,000,000, slots is not 1 to 64,
 /// there are more ids than slots, an id is not 1 to 32,767 or stands twice; then 28 if the buffer is
 /// shorter than the packet. Refused, it leaves the whole buffer.
+#[inline]
 pub fn write<'a>(
     start: u32,
     slots: u32,
@@ -70,6 +71,7 @@ pub fn write<'a>(
 ///
 /// 26 if there are fewer than 6 bytes, or other than 6 + 2×n of them where n is byte 5; then 27 if
 /// they are not those of good values (Annex 10.3).
+#[inline]
 pub fn read(bytes: &[u8]) -> Result<Packet<'_>, Refusal> {
     // SAFETY: Annex 7.39: the pointer is not null, that of an empty slice neither, which points
     // nowhere and is not read; the slice's bytes can be read, and nobody writes them meanwhile.

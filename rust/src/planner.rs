@@ -82,6 +82,7 @@ impl Planner {
     /// a stream has it; 8 with 64 streams; 9 unless the period is 1 to 240 and divides the frame; 10
     /// unless the deadline is 1 to the period; 11 unless the release is now to now + 239; 12 if the
     /// table with it breaks the demand rule; 13 if it breaks the start rule.
+    #[inline]
     pub fn add(&mut self, stream: Stream) -> Result<(), Refusal> {
         let Stream { id, release, period, deadline } = stream;
         // SAFETY: Annex 7.39: a planner whose every byte has a value, exclusively borrowed.
@@ -93,6 +94,7 @@ impl Planner {
     /// # Errors
     ///
     /// 5 if the planner is not sound; then 14 if no stream has the id, whatever number it is.
+    #[inline]
     pub fn remove(&mut self, id: u32) -> Result<(), Refusal> {
         // SAFETY: Annex 7.39: a planner whose every byte has a value, exclusively borrowed.
         answered(unsafe { raw::planner_remove(&mut self.raw, id) })
@@ -109,6 +111,7 @@ impl Planner {
     /// 5 if the planner is not sound; then 16 if the buffer has fewer than `slots` elements, even
     /// where there is nothing to write; then 17 if the start is after 1,000,000,000. Refused, it
     /// leaves planner and buffer as they were.
+    #[inline]
     pub fn round<'a>(&mut self, buffer: &'a mut [u16]) -> Result<Round<'a>, Refusal> {
         // SAFETY: Annex 7.39: a planner whose every byte has a value, and a slice of that length,
         // both exclusively borrowed, so that they do not overlap and nobody else has them. The

@@ -1,4 +1,5 @@
-"""Talks with the command program over pipes, and takes the system away from it in several ways."""
+"""Talks with the command program over pipes, and takes the system away from it in several ways: host.py PROGRAM.
+A line for each thing tried; it stops at the first that differs, says what came and what was expected, and fails."""
 import fcntl
 import os
 import signal
@@ -13,8 +14,8 @@ pipe = subprocess.PIPE
 
 def expect(what, got, wanted):
     if got != wanted:
-        sys.exit(f"{what}: got {got!r}, wanted {wanted!r}")
-    print(f"{what}: as it should be")
+        sys.exit(f"{what}: DIFFERS\n  came     {got!r}\n  expected {wanted!r}")
+    print(f"{what}: as it should be", flush=True)
 
 
 def start(**how):
@@ -30,11 +31,11 @@ def ask(child, line):
 def one_line_at_a_time():
     child = start()
     script = open("examples/station/script", "rb").read().splitlines(keepends=True)
-    whole = subprocess.run([program], input=b"".join(script), stdout=pipe, check=True).stdout.splitlines(keepends=True)
+    answers = open("examples/station/answers", "rb").read().splitlines(keepends=True)
     signal.alarm(20)  # an answer that waits for more input never comes
     got = [ask(child, line) for line in script]
     signal.alarm(0)
-    expect("one line sent, one answer had, before the next is sent", got, whole)
+    expect("one line sent, one answer had, before the next is sent", got, answers)
     out, err = child.communicate()
     expect("nothing more at the end", (out, err), (b"", b""))
 
@@ -138,4 +139,3 @@ for part in (
     full_device,
 ):
     part()
-print("the pipe example passed")

@@ -1,52 +1,88 @@
-/* The lazy round planner, for a firmware that keeps one planner and lends it to each call.
+/* planner.h: the lazy round planner, for a host or firmware that keeps one planner in its memory and lends it to each call.
  *
- * What is said here of a call's answer, and of what planner and buffer hold after it, is proved of it, on every planner whatever it holds,
- * every number and every buffer; the full statement is that of the call by value (docs/ANNEX.md, the Annex, chapters 3 to 7; of this form
- * Annex 7.35). What is said of stores, stack, symbols and machine is not proved: it is read off the source and off the library as it is built.
+ * Radio heads on batteries sleep between rounds. The planner says when the next round starts, as late as every deadline allows, and which streams
+ * send in it, the earliest deadline first. A host opens a planner, adds a stream for each head, and asks for one round after the other:
  *
- * open, add, remove and round answer 0 or the number of the first refusal that applies.
- *   - open tests nothing of the planner and overwrites it, refused or not. Refused, it leaves the closed planner, which add, remove and
- *     round refuse with 5.
- *   - add, remove and round test the whole planner first and refuse with 5 one that is not sound: a value out of range, a rule broken, a
- *     queue that does not file the streams. That is not every damage. A planner that was damaged in memory and is still sound is accepted
- *     and used as it stands: another gap, another period or number of slots with which the rules hold, anything in a place that is free.
- *     A firmware that has to find every damage keeps a checksum beside the planner.
- *   - add, remove and round store the planner only where they answer 0, and round writes the buffer only then. A refused one writes
- *     nothing in either, so that a planner which is refused may lie in memory that cannot be written. open always writes.
+ *     static struct planner p = PLANNER_INIT;
+ *     uint16_t ids[PLANNER_MOST_SLOTS] = {0};
+ *     if (planner_version() != PLANNER_VERSION || planner_open(&p, 2, 6, 6, 0) != PLANNER_OK) { return 1; }
+ *     uint32_t answer = planner_add(&p, 1, 1, 3, 2);                            // stream 1: released at 1, 4, 7 and so on, due 2 later
+ *     struct planner_held held = planner_round(&p, ids, PLANNER_MOST_SLOTS);    // at held.start, here 2, with the first held.n of ids, here 1
  *
- * What C has to keep, since nothing checks a call or this file against the source:
- *   - a 64-bit x86 machine: the library is built for it, uses its SSE2 registers, and takes size_t to be 8 bytes;
- *   - the structs as they stand here, with the layout and alignment that C gives them; the examples check sizes and offsets. A planner kept
- *     by an earlier version, whose queue had no `releases`, has another layout (3,608 bytes, where it now has 3,864) and must be opened anew;
- *   - the same version in every host on a bus. Earlier ones counted the gap from a round's start: a host with this version and one with an
- *     earlier one part at the first round that only the gap forces, held here at last + 1 + gap, there at last + gap. Nothing in a planner
- *     says which version kept it, and no call refuses it for that;
- *   - no pointer is null, buffers of length 0 included, and each is aligned for its type;
- *   - a planner's memory has been written before it is lent (to open too: zeros will do), so that every byte has a value;
- *   - buffer points to `length` ids that can be read and, for planner_round, written; length is at most the buffer's real one;
- *   - the buffer does not overlap the planner, and nobody else reads or writes either during a call.
+ * The order of calls: planner_open; then planner_add, planner_remove and planner_round in any order, each on the planner as the call before left
+ * it. packet_write (packets.h) makes of a round the bytes that go on air; superframe (superframe.h) helps to find a frame.
  *
- * What the library needs from outside: memcpy and memset as C has them, and nothing else (`nm -u target/staticlib/liblent.a` lists them). A
- * program without a C library has to have its own, as examples/c/freestanding.c has. No heap; no pointer is kept, and no call writes
- * anything but what it is lent and its stack. Every call returns, if these two do and the stack is large enough; nothing tests that it is.
+ * An answer is 0, PLANNER_OK, or the number of the first refusal that applies, which has a name below; planner_text(answer) says it in words. A
+ * refused add, remove or round changes nothing, and the same call may succeed later. A refused open leaves a closed planner, which the others
+ * refuse with 5.
  *
- * Stack, in bytes, return address and memcpy and memset of glibc included: open 1,112, add 15,880, remove 15,032, round 21,736, filled 24 (16
- * of each are the measuring program's). Measured on a painted stack (`bash bench/stack`), the most over calls of every answer on a dozen
- * tables with up to 64 streams. That is this build, by the compiler that built it, and no promise: measure again what is linked, and leave
- * room above it.
- */
+ * Three things that a caller must see to, since no call can test them:
+ *   1. the memory: no pointer is null, a buffer has the length that is passed, planner and buffer do not overlap, nobody else touches them during a
+ *      call, and nobody but the calls writes a planner;
+ *   2. the stack: a round takes some 22 kB of it, add and remove some 16 kB;
+ *   3. the version: it is the same in every host on a bus.
+ *
+ * The rest: what each call does and refuses stands at its prototype; what C has to keep, what is proved and what is not, versions, damage and stack
+ * at the end of this file. examples/c/host.c is a whole host. The specification is the Annex, docs/ANNEX.md, in the bundle doc/annex.html. */
 #ifndef PLANNER_H
 #define PLANNER_H
 
 #include <stddef.h>
 #include <stdint.h>
 
+/* Annex 7.40: the version that this header is of; planner_version() gives the library's. A host refuses a library of another one. */
+#define PLANNER_VERSION 6
+
+/* The limits. */
+#define PLANNER_MOST_SLOTS 64            /* Annex 3.6: B, and so the ids of a round; a buffer of this length is never too short */
+#define PLANNER_LONGEST_FRAME 5040       /* Annex 3.6: F */
+#define PLANNER_LONGEST_GAP 255          /* Annex 3.6: G */
+#define PLANNER_PLACES 64                /* Annex 3.6: streams */
+#define PLANNER_LARGEST_ID 32767         /* Annex 3.7; the smallest is 1 */
+#define PLANNER_LONGEST_PERIOD 240       /* Annex 3.7: P */
+#define PLANNER_FURTHEST_RELEASE 239     /* Annex 3.8: so far after now, which is last + 1, a stream's first packet may be released */
+#define PLANNER_LAST_START 1000000000    /* Annex 1.3: no round starts later */
+#define PLANNER_NODES 544                /* Annex 8.6: places and buckets of the queue */
+
+/* Annex 7.2: the answers: name, number, and when it is given, in the words of table 1 of the Annex. B, F, G and T are slots, frame, gap and last of
+ * planner_open; S, P and D are start, period and deadline of planner_add; a record is what is kept of a stream. 15 is never given. */
+#define PLANNER_ANSWERS(ANSWER)                                                       \
+    ANSWER(PLANNER_OK, 0, "success")                                                  \
+    ANSWER(PLANNER_BAD_SLOTS, 1, "B is not 1 to 64")                                  \
+    ANSWER(PLANNER_BAD_FRAME, 2, "F is not 1 to 5,040")                               \
+    ANSWER(PLANNER_BAD_GAP, 3, "G is not 1 to 255")                                   \
+    ANSWER(PLANNER_BAD_LAST, 4, "T is above 1,000,000,000")                           \
+    ANSWER(PLANNER_NOT_SOUND, 5, "the planner is not sound")                          \
+    ANSWER(PLANNER_BAD_ID, 6, "the id is not 1 to 32,767")                            \
+    ANSWER(PLANNER_ID_TAKEN, 7, "a record has the id")                                \
+    ANSWER(PLANNER_FULL, 8, "64 records are held")                                    \
+    ANSWER(PLANNER_BAD_PERIOD, 9, "P is not 1 to 240, or does not divide F")          \
+    ANSWER(PLANNER_BAD_DEADLINE, 10, "D is not 1 to P")                               \
+    ANSWER(PLANNER_BAD_START, 11, "S is not now to now + 239")                        \
+    ANSWER(PLANNER_BREAKS_DEMAND, 12, "the table with it breaks the demand rule")     \
+    ANSWER(PLANNER_BREAKS_START, 13, "the table with it breaks the start rule")       \
+    ANSWER(PLANNER_NO_STREAM, 14, "no record has the id")                             \
+    ANSWER(PLANNER_SHORT_BUFFER, 16, "the buffer has fewer than B places")            \
+    ANSWER(PLANNER_LATE_START, 17, "the lazy start is after 1,000,000,000")
+
+/* The names of the answers. The calls return a uint32_t, which is compared with them. */
+#define PLANNER_NAME(name, number, text) name = number,
+enum planner_answers { PLANNER_ANSWERS(PLANNER_NAME) };
+#undef PLANNER_NAME
+
+/* An answer in words; of a number that is none, that it is none. Plain C, and not proved. */
+static inline const char *planner_text(uint32_t answer) {
+#define PLANNER_CASE(name, number, text) case number: return text;
+    switch (answer) {
+        PLANNER_ANSWERS(PLANNER_CASE)
+        default: return "no answer of the planner";
+    }
+#undef PLANNER_CASE
+}
+
 #ifdef __cplusplus
 extern "C" {
 #endif
-
-#define PLANNER_PLACES 64
-#define PLANNER_NODES 544
 
 /* Annex 3.2: a stream, with the release of its first unserved packet. */
 struct planner_stream {
@@ -71,8 +107,8 @@ struct planner_queue {
     uint32_t releases[PLANNER_PLACES];
 };
 
-/* Annex 3.1, 3.5: B, F, G and L, the streams and the queue that files them. To be read, and to be copied whole (a host that takes
- * over gets such a copy); only the calls write it. */
+/* Annex 3.1, 3.5: B, F, G and L, the streams and the queue that files them. To be read, and to be copied whole (a host that takes over gets such a
+ * copy, Annex 7.38); only the calls write it. */
 struct planner {
     uint32_t slots;
     uint32_t frame;
@@ -82,6 +118,13 @@ struct planner {
     struct planner_queue queue;
 };
 
+/* The initialiser, zeros: struct planner p = PLANNER_INIT; A planner of zeros is not open: each call on it but planner_open answers 5. */
+#ifdef __cplusplus
+#define PLANNER_INIT {}
+#else
+#define PLANNER_INIT {0}
+#endif
+
 /* Annex 7.28, 7.31: what a round answers: its start and the count of ids written, both 0 if refused. */
 struct planner_held {
     uint32_t answer;
@@ -89,29 +132,28 @@ struct planner_held {
     uint32_t n;
 };
 
-/* Annex 7.5 to 7.9: opens the planner, whatever it held and sound or not: B = slots, F = frame, G = gap, L = last, and no stream. The gap
- * runs from the end of a round, one after its start: each start is at most last + 1 + gap, the first as if a round had been held at the last
- * passed here.
- * Refuses 1 unless slots is 1 to 64, 2 unless frame is 1 to 5,040, 3 unless gap is 1 to 255, 4 if last is above 1,000,000,000;
- * refused, it leaves the closed planner. */
+/* Annex 7.40: the library's version. */
+uint32_t planner_version(void);
+
+/* Annex 7.5 to 7.9: opens the planner, whatever it held and sound or not: B = slots, F = frame, G = gap, L = last, and no stream. The gap runs from
+ * the end of a round, one after its start: each start is at most last + 1 + gap, the first as if a round had been held at the last passed here.
+ * Refuses 1 unless slots is 1 to 64, 2 unless frame is 1 to 5,040, 3 unless gap is 1 to 255, 4 if last is above 1,000,000,000; refused, it leaves
+ * the closed planner. */
 uint32_t planner_open(struct planner *p, uint32_t slots, uint32_t frame, uint32_t gap, uint32_t last);
 
-/* Annex 7.10 to 7.20: adds a stream whose first packet is released at start. Refuses 5; 6 unless id is 1 to 32,767; 7 for an id held; 8 with 64
- * streams; 9 unless period is 1 to 240 and divides frame; 10 unless deadline is 1 to period; 11 unless start is last + 1 to
- * last + 240; 12 if the table with it breaks the demand rule; 13 if it breaks the start rule. */
+/* Annex 7.10 to 7.20: adds a stream whose first packet is released at start. Refuses 5; 6 unless id is 1 to 32,767; 7 for an id that a stream has; 8
+ * with 64 streams; 9 unless period is 1 to 240 and divides frame; 10 unless deadline is 1 to period; 11 unless start is last + 1 to last + 240; 12
+ * if the table with it breaks the demand rule; 13 if it breaks the start rule. */
 uint32_t planner_add(struct planner *p, uint32_t id, uint32_t start, uint32_t period, uint32_t deadline);
 
-/* Annex 7.22, 7.23: takes a stream out. Refuses 5, and 14 where there is no such stream. */
+/* Annex 7.22, 7.23: takes a stream out, and its unserved packet with it. Refuses 5, and 14 where there is no such stream. */
 uint32_t planner_remove(struct planner *p, uint32_t id);
 
-/* Annex 7.24 to 7.33: holds the next round: its start, and n ids in the buffer's first n places, n at most slots; later places are untouched.
- * Of the packets that may ride they are the first by due time, in that order; those due at the same time go by earlier release, then by
- * smaller id. That start and ids are those of the rules, that no packet is late and that no plan needs fewer rounds, is proved of every
- * sound planner, with or without a stream (Annex 12.4 and 12.6 to 12.13). With none, before the first is added or after the last is taken
- * out, the round is held at last + 1 + gap with n 0, the buffer is left as it was, and no plan that keeps the gap limit holds its k-th round
- * later (Annex 7.32 and 12.14).
- * Refuses 5 (the closed planner too); 16 if length is below slots, even where there is nothing to write; 17 if the start is after
- * 1,000,000,000. 15 is not given. */
+/* Annex 7.24 to 7.33: holds the next round: its start, and n ids in the buffer's first n places, n at most slots; later places are untouched. Of the
+ * packets that may ride they are the first by due time, in that order; those due at the same time go by earlier release, then by smaller id. With no
+ * stream, before the first is added or after the last is taken out, the round is held at last + 1 + gap with n 0, and the buffer is left as it was.
+ * Refuses 5 (the closed planner too); 16 if length is below slots, even where there is nothing to write; 17 if the start is after 1,000,000,000. 15
+ * is not given. */
 struct planner_held planner_round(struct planner *p, uint16_t *buffer, size_t length);
 
 /* Annex 7.36: how many places of the buffer a round that answered n has filled, from its front: n, or length if n is above it. It refuses nothing. */
@@ -120,5 +162,96 @@ size_t planner_filled(const uint16_t *buffer, size_t length, uint32_t n);
 #ifdef __cplusplus
 }
 #endif
+
+/* Annex 7.38: the layout that the library takes the structs to have. A compiler that lays them out in another way stops here. C99 has no word for an
+ * alignment, and does not test that one. */
+#if defined(__cplusplus) && __cplusplus >= 201103L
+#define PLANNER_ASSERT(name, condition) static_assert(condition, #name)
+#define PLANNER_ALIGN(type) alignof(struct type)
+#elif defined(__STDC_VERSION__) && __STDC_VERSION__ >= 201112L
+#define PLANNER_ASSERT(name, condition) _Static_assert(condition, #name)
+#define PLANNER_ALIGN(type) _Alignof(struct type)
+#else
+#define PLANNER_ASSERT(name, condition) typedef char planner_assert_##name[(condition) ? 1 : -1]
+#define PLANNER_ALIGN(type) 8
+#endif
+#define PLANNER_SIZE(type, bytes) PLANNER_ASSERT(type##_size, sizeof(struct type) == (bytes))
+#define PLANNER_FIELD(type, field, offset) PLANNER_ASSERT(type##_##field, offsetof(struct type, field) == (offset))
+
+PLANNER_ASSERT(size_t_has_8_bytes, sizeof(size_t) == 8);
+PLANNER_SIZE(planner_stream, 16);
+PLANNER_FIELD(planner_stream, id, 0);
+PLANNER_FIELD(planner_stream, period, 4);
+PLANNER_FIELD(planner_stream, deadline, 8);
+PLANNER_FIELD(planner_stream, release, 12);
+PLANNER_SIZE(planner_table, 1032);
+PLANNER_FIELD(planner_table, count, 0);
+PLANNER_FIELD(planner_table, streams, 8);
+PLANNER_SIZE(planner_queue, 2816);
+PLANNER_FIELD(planner_queue, ids, 0);
+PLANNER_FIELD(planner_queue, keys, 128);
+PLANNER_FIELD(planner_queue, next, 384);
+PLANNER_FIELD(planner_queue, prev, 1472);
+PLANNER_FIELD(planner_queue, releases, 2560);
+PLANNER_SIZE(planner, 3864);
+PLANNER_ASSERT(planner_alignment, PLANNER_ALIGN(planner) == 8);
+PLANNER_FIELD(planner, slots, 0);
+PLANNER_FIELD(planner, frame, 4);
+PLANNER_FIELD(planner, gap, 8);
+PLANNER_FIELD(planner, last, 12);
+PLANNER_FIELD(planner, table, 16);
+PLANNER_FIELD(planner, queue, 1048);
+PLANNER_SIZE(planner_held, 12);
+PLANNER_FIELD(planner_held, answer, 0);
+PLANNER_FIELD(planner_held, start, 4);
+PLANNER_FIELD(planner_held, n, 8);
+
+#undef PLANNER_FIELD
+#undef PLANNER_SIZE
+#undef PLANNER_ALIGN
+#undef PLANNER_ASSERT
+
+/* What is proved. What is said above of a call's answer, and of what planner and buffer hold after it, is proved of it, on every planner whatever it
+ * holds, every number and every buffer; the full statement is that of the call by value (the Annex, chapters 3 to 7; of this form Annex 7.35). Of
+ * planner_round it is proved too, of every sound planner, with or without a stream, that start and ids are those of the rules, that no packet is
+ * late and that no plan needs fewer rounds (Annex 12.4 and 12.6 to 12.13); with no stream, that no plan which keeps the gap limit holds its k-th
+ * round later (Annex 7.32 and 12.14).
+ * What is said of stores, stack, symbols and machine is not proved: it is read off the source and off the library as it is built. Nor is what stands
+ * in this file as C: nothing checks it against the source (Annex 13.5).
+ *
+ * What a call tests and stores.
+ *   - open tests nothing of the planner and overwrites it, refused or not. Refused, it leaves the closed planner, which add, remove and round
+ *     refuse with 5.
+ *   - add, remove and round test the whole planner first and refuse with 5 one that is not sound: a value out of range, a rule broken, a queue that
+ *     does not file the streams. That is not every damage. A planner that was damaged in memory and is still sound is accepted and used as it
+ *     stands: another gap, another period or number of slots with which the rules hold, anything in a place that is free. A firmware that has to
+ *     find every damage keeps a checksum beside the planner (Annex 13.7).
+ *   - add, remove and round store the planner only where they answer 0, and round writes the buffer only then. A refused one writes nothing in
+ *     either, so that a planner which is refused may lie in memory that cannot be written (Annex 7.37). open always writes.
+ *
+ * What C has to keep, since nothing checks a call or this file against the source (Annex 7.39):
+ *   - a 64-bit x86 machine: the library is built for it, uses its SSE2 registers, and takes size_t to be 8 bytes;
+ *   - the structs as they stand here, with the layout and alignment that C gives them; the assertions above test sizes and offsets;
+ *   - no pointer is null, buffers of length 0 included, and each is aligned for its type;
+ *   - a planner's memory has been written before it is lent (to open too: PLANNER_INIT will do), so that every byte has a value;
+ *   - buffer points to `length` ids that can be read and, for planner_round, written; length is at most the buffer's real one;
+ *   - the buffer does not overlap the planner, and nobody else reads or writes either during a call;
+ *   - the same version in every host on a bus (Annex 13.8).
+ *
+ * Versions. A host that compares planner_version() with PLANNER_VERSION finds out a library of another version than the header it was compiled with;
+ * earlier libraries have no such function, and a program that calls it does not link with them. Nothing in a planner says which version kept it, and
+ * no call refuses it for that.
+ *   - Versions 1 to 5 counted the gap from a round's start: a host with this version and one with an earlier one part at the first round that only
+ *     the gap forces, held here at last + 1 + gap, there at last + gap.
+ *   - Versions 1 and 2, whose queue had no `releases`, have another layout, 3,608 bytes, where a planner now has 3,864; one that they kept must be
+ *     opened anew.
+ *
+ * What the library needs from outside: memcpy and memset as C has them, and nothing else (`nm -u libplanner.a` lists them). A program without a C
+ * library has to have its own, as examples/c/freestanding.c has. No heap; no pointer is kept, and no call writes anything but what it is lent and
+ * its stack. Every call returns, if these two do and the stack is large enough; nothing tests that it is (Annex 13.9).
+ *
+ * Stack, in bytes, return address and memcpy and memset of glibc included: open 1,112, add 15,880, remove 15,032, round 21,736, filled 24 (16 of each
+ * are the measuring program's). Measured on a painted stack (`bash bench/stack`), the most over calls of every answer on a dozen tables with up to
+ * 64 streams. That is this build, by the compiler that built it, and no promise: measure again what is linked, and leave room above it. */
 
 #endif

@@ -18,12 +18,13 @@ void *memset(void *to, int value, size_t n) {
     return to;
 }
 
-static struct planner kept;
+static struct planner kept = PLANNER_INIT;
 
 static int is_round(uint32_t start, uint16_t first, uint16_t second) {
-    uint16_t buffer[64] = {0};
-    struct planner_held held = planner_round(&kept, buffer, 64);
-    return held.answer == 0 && held.start == start && planner_filled(buffer, 64, held.n) == 2 && buffer[0] == first && buffer[1] == second;
+    uint16_t buffer[PLANNER_MOST_SLOTS] = {0};
+    struct planner_held held = planner_round(&kept, buffer, PLANNER_MOST_SLOTS);
+    return held.answer == PLANNER_OK && held.start == start && planner_filled(buffer, PLANNER_MOST_SLOTS, held.n) == 2 && buffer[0] == first
+        && buffer[1] == second;
 }
 
 /* Whether these values make a packet of ten bytes that reads back as they are, with its last byte where it belongs and the next untouched. */

@@ -5,13 +5,7 @@
 #include "packets.h"
 #include "planner.h"
 
-/* The layout of what a read gives: a compiler that lays it out in another way stops here. */
-_Static_assert(sizeof(struct packet_header) == 16, "header");
-_Static_assert(offsetof(struct packet_header, start) == 4, "header.start");
-_Static_assert(offsetof(struct packet_header, slots) == 8, "header.slots");
-_Static_assert(offsetof(struct packet_header, n) == 12, "header.n");
-
-static struct planner kept;
+static struct planner kept = PLANNER_INIT;
 
 static void print_read(const uint8_t *packet, size_t length) {
     struct packet_header read = packet_read(packet, length);
@@ -24,14 +18,11 @@ static void print_read(const uint8_t *packet, size_t length) {
 
 /* Holds a round and puts it on air; whether that went well, and each head finds itself in the packet just if the round lists it. */
 static int hold(void) {
-    uint16_t ids[64];
-    uint8_t packet[6 + 2 * 64];
-    for (size_t k = 0; k < 64; k++) {
-        ids[k] = 0;
-    }
-    struct planner_held held = planner_round(&kept, ids, 64);
-    size_t length = 6 + 2 * (size_t)held.n;
-    if (held.answer != 0 || packet_write(held.start, kept.slots, ids, held.n, packet, sizeof packet) != 0) {
+    uint16_t ids[PLANNER_MOST_SLOTS] = {0};
+    uint8_t packet[PACKET_MOST_BYTES] = {0};
+    struct planner_held held = planner_round(&kept, ids, PLANNER_MOST_SLOTS);
+    size_t length = PACKET_BYTES(held.n);
+    if (held.answer != PLANNER_OK || packet_write(held.start, kept.slots, ids, held.n, packet, sizeof packet) != PACKET_OK) {
         return 0;
     }
     for (size_t k = 0; k < length; k++) {
@@ -47,8 +38,8 @@ static int hold(void) {
 }
 
 int main(void) {
-    int right = planner_open(&kept, 2, 6, 6, 0) == 0 && planner_add(&kept, 1, 1, 3, 2) == 0 && planner_add(&kept, 2, 1, 6, 6) == 0
-        && planner_add(&kept, 3, 2, 6, 5) == 0;
+    int right = planner_open(&kept, 2, 6, 6, 0) == PLANNER_OK && planner_add(&kept, 1, 1, 3, 2) == PLANNER_OK
+        && planner_add(&kept, 2, 1, 6, 6) == PLANNER_OK && planner_add(&kept, 3, 2, 6, 5) == PLANNER_OK;
     right = right && hold() && hold() && hold();
     return right ? 0 : 1;
 }

@@ -1,0 +1,22 @@
+# The first number is the one that hosts compare: a version with another one is refused, and so is one that is asked for and later than this.
+set(PACKAGE_VERSION "@VERSION@")
+string(REGEX MATCH "^[0-9]+" _planner_first "${PACKAGE_VERSION}")
+set(PACKAGE_VERSION_COMPATIBLE FALSE)
+if(PACKAGE_FIND_VERSION_RANGE)
+    # a range has to lie within the same first number
+    if(PACKAGE_FIND_VERSION_MIN_MAJOR STREQUAL _planner_first AND NOT PACKAGE_VERSION VERSION_LESS PACKAGE_FIND_VERSION_MIN
+            AND (PACKAGE_VERSION VERSION_LESS PACKAGE_FIND_VERSION_MAX
+                 OR (PACKAGE_FIND_VERSION_RANGE_MAX STREQUAL "INCLUDE" AND PACKAGE_VERSION VERSION_EQUAL PACKAGE_FIND_VERSION_MAX)))
+        set(PACKAGE_VERSION_COMPATIBLE TRUE)
+    endif()
+elseif(PACKAGE_FIND_VERSION_MAJOR STREQUAL _planner_first AND NOT PACKAGE_VERSION VERSION_LESS PACKAGE_FIND_VERSION)
+    set(PACKAGE_VERSION_COMPATIBLE TRUE)
+    if(PACKAGE_VERSION VERSION_EQUAL PACKAGE_FIND_VERSION)
+        set(PACKAGE_VERSION_EXACT TRUE)
+    endif()
+endif()
+# the library is built for a 64-bit x86 machine
+if(CMAKE_SIZEOF_VOID_P AND NOT CMAKE_SIZEOF_VOID_P EQUAL 8)
+    set(PACKAGE_VERSION_UNSUITABLE TRUE)
+endif()
+unset(_planner_first)

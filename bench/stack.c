@@ -13,43 +13,57 @@
 #include "planner.h"
 #include "superframe.h"
 
-/* What the next call gets, and what it answered. None is static: the compiler does not see the calls, and has to keep each in memory. */
+/* What the next call gets, and what it answered or gave. None is static: the compiler does not see the calls, and has to keep each in memory. */
 struct planner kept;
-uint16_t buffer[64];
+uint16_t buffer[PLANNER_MOST_SLOTS];
 uint32_t arg[4];
 size_t length;
 uint8_t periods[255];
-uint8_t packet[134];
+uint8_t packet[PACKET_MOST_BYTES];
 uint32_t answer;
+size_t given;
 
-static void call_open(void) { answer = planner_open(&kept, arg[0], arg[1], arg[2], arg[3]); }
-static void call_add(void) { answer = planner_add(&kept, arg[0], arg[1], arg[2], arg[3]); }
-static void call_remove(void) { answer = planner_remove(&kept, arg[0]); }
-static void call_round(void) { answer = planner_round(&kept, buffer, length).answer; }
-static void call_filled(void) { answer = (uint32_t)planner_filled(buffer, length, arg[0]); }
-static void call_superframe(void) { answer = superframe_answer(superframe(periods, length)); }
-static void call_write(void) { answer = packet_write(arg[0], arg[1], buffer, arg[2], packet, length); }
-static void call_read(void) { answer = packet_read(packet, length).answer; }
-static void call_ids_length(void) { answer = (uint32_t)packet_ids_length(packet, length); }
+/* Every call of the interface, with the answer that its figure goes to; a call that gives a length or a version has one figure, under 0. */
+#define CALLS(CALL)                                                                                                  \
+    CALL(planner_version, (given = planner_version(), 0u))                                                           \
+    CALL(planner_open, planner_open(&kept, arg[0], arg[1], arg[2], arg[3]))                                          \
+    CALL(planner_add, planner_add(&kept, arg[0], arg[1], arg[2], arg[3]))                                            \
+    CALL(planner_remove, planner_remove(&kept, arg[0]))                                                              \
+    CALL(planner_round, planner_round(&kept, buffer, length).answer)                                                 \
+    CALL(planner_filled, (given = planner_filled(buffer, length, arg[0]), 0u))                                       \
+    CALL(superframe, superframe_answer(superframe(periods, length)))                                                 \
+    CALL(packet_version, (given = packet_version(), 0u))                                                             \
+    CALL(packet_write, packet_write(arg[0], arg[1], buffer, arg[2], packet, length))                                 \
+    CALL(packet_read, packet_read(packet, length).answer)                                                            \
+    CALL(packet_ids_length, (given = packet_ids_length(packet, length), 0u))
+
+#define AS_FUNCTION(name, call) static void call_##name(void) { answer = call; }
+#define AS_INDEX(name, call) of_##name,
+#define AS_FIGURE(name, call) {#name, call_##name, {0}},
+
+CALLS(AS_FUNCTION)
 static void call_nothing(void) { answer = 0; }
 
 /* Answers are below this number. */
-#define ANSWERS 29
+#define ANSWERS 64
 
-/* The largest figure of a call, for answer 0 and for each refusal; of calls that answer a length all together. */
+/* The largest figure of a call, for answer 0 and for each refusal. */
 struct figure {
     const char *name;
+    void (*call)(void);
     size_t most[ANSWERS];
 };
 
-static struct figure figures[] = {
-    {"planner_open", {0}}, {"planner_add", {0}}, {"planner_remove", {0}}, {"planner_round", {0}}, {"planner_filled", {0}}, {"superframe", {0}},
-    {"packet_write", {0}}, {"packet_read", {0}}, {"packet_ids_length", {0}},
-};
+enum { CALLS(AS_INDEX) };
+static struct figure figures[] = {CALLS(AS_FIGURE)};
 
-static uint32_t measure(int which, void (*call)(void)) {
-    size_t used = painted_stack_used(call);
-    size_t *most = &figures[which].most[which == 4 || which == 8 || answer >= ANSWERS ? 0 : answer];
+static uint32_t measure(int which) {
+    size_t used = painted_stack_used(figures[which].call);
+    if (answer >= ANSWERS) {
+        fprintf(stderr, "%s answers %u\n", figures[which].name, (unsigned)answer);
+        exit(1);
+    }
+    size_t *most = &figures[which].most[answer];
     if (used > *most) {
         *most = used;
     }
@@ -57,25 +71,25 @@ static uint32_t measure(int which, void (*call)(void)) {
 }
 
 static uint32_t open_with(uint32_t slots, uint32_t frame, uint32_t gap, uint32_t last) {
-    uint32_t given[] = {slots, frame, gap, last};
-    memcpy(arg, given, sizeof arg);
-    return measure(0, call_open);
+    const uint32_t numbers[] = {slots, frame, gap, last};
+    memcpy(arg, numbers, sizeof arg);
+    return measure(of_planner_open);
 }
 
-static uint32_t add(uint32_t id, uint32_t start, uint32_t period, uint32_t deadline) {
-    uint32_t given[] = {id, start, period, deadline};
-    memcpy(arg, given, sizeof arg);
-    return measure(1, call_add);
+static uint32_t add(uint32_t id, uint32_t release, uint32_t period, uint32_t deadline) {
+    const uint32_t numbers[] = {id, release, period, deadline};
+    memcpy(arg, numbers, sizeof arg);
+    return measure(of_planner_add);
 }
 
 static uint32_t take_out(uint32_t id) {
     arg[0] = id;
-    return measure(2, call_remove);
+    return measure(of_planner_remove);
 }
 
 static uint32_t hold(size_t places) {
     length = places;
-    return measure(3, call_round);
+    return measure(of_planner_round);
 }
 
 static uint32_t seed = 1;
@@ -147,13 +161,16 @@ static void small_calls(void) {
     for (uint32_t n = 0; n < 70; n++) {
         length = n % 65;
         arg[0] = below(70);
-        measure(4, call_filled);
+        measure(of_planner_filled);
     }
+}
+
+static void superframes(void) {
     const uint8_t lists[][3] = {{5, 7, 15}, {240, 7, 9}, {240, 7, 11}, {0, 7, 9}, {233, 144, 89}, {1, 1, 1}};
     for (size_t k = 0; k < sizeof lists / sizeof lists[0]; k++) {
         memcpy(periods, lists[k], 3);
         length = 3;
-        measure(5, call_superframe);
+        measure(of_superframe);
     }
     /* every pair: the greatest common divisor calls itself */
     for (uint32_t a = 1; a <= 240; a++) {
@@ -161,7 +178,7 @@ static void small_calls(void) {
             periods[0] = (uint8_t)a;
             periods[1] = (uint8_t)b;
             length = 2;
-            measure(5, call_superframe);
+            measure(of_superframe);
         }
     }
 }
@@ -173,29 +190,32 @@ static void packets(void) {
             for (uint32_t k = 0; k < n; k++) {
                 buffer[k] = (uint16_t)(501 + k * 509);
             }
-            uint32_t given[] = {kind == 2 ? 1000000001 : 16909060, 64, n, 0};
-            memcpy(arg, given, sizeof arg);
+            const uint32_t numbers[] = {kind == 2 ? 1000000001 : 16909060, 64, n, 0};
+            memcpy(arg, numbers, sizeof arg);
             length = kind == 3 ? 5 + 2 * n : sizeof packet;
             if (kind == 1 && n > 1) {
                 buffer[n - 1] = buffer[0];
             }
-            measure(6, call_write);
+            measure(of_packet_write);
             length = 6 + 2 * n;
-            measure(7, call_read);
-            measure(8, call_ids_length);
+            measure(of_packet_read);
+            measure(of_packet_ids_length);
             length = 5 + 2 * n;
-            measure(7, call_read);
-            measure(8, call_ids_length);
+            measure(of_packet_read);
+            measure(of_packet_ids_length);
             packet[4] = (uint8_t)(kind == 2 ? 65 : 64);
             length = 6 + 2 * n;
-            measure(7, call_read);
+            measure(of_packet_read);
         }
     }
 }
 
 int main(void) {
     printf("a call of nothing: %zu bytes\n", painted_stack_used(call_nothing));
+    measure(of_planner_version);
+    measure(of_packet_version);
     small_calls();
+    superframes();
     packets();
     const uint32_t gaps[] = {200, 20};
     for (int g = 0; g < 2; g++) {

@@ -46,7 +46,7 @@
 #define PACKET_ANSWERS(ANSWER)                                                             \
     ANSWER(PACKET_OK, 0, "success")                                                        \
     ANSWER(PACKET_WRONG_LENGTH, 26, "the length is under 6, or other than 6 + 2 * n")      \
-    ANSWER(PACKET_NOT_GOOD, 27, "the values are not good (Annex 10.3)")                    \
+    ANSWER(PACKET_BAD_VALUES, 27, "the values are not good (Annex 10.3)")                  \
     ANSWER(PACKET_SHORT_BUFFER, 28, "the buffer is shorter than the packet")
 
 /* The names of the answers. The calls return a uint32_t, which is compared with them. */
@@ -149,8 +149,8 @@ PACKET_FIELD(packet_header, n, 12);
  * What these calls need from outside: memset as C has it, and nothing else (`nm -u libplanner.a`, packets.o). No heap; no pointer is kept; a call
  * writes nothing but the packet that it is lent and its stack, and returns.
  *
- * Stack, in bytes, return address and memset of glibc included: packet_write 220, packet_read and packet_ids_length 744 (16 of each are the measuring
- * program's). Measured on a painted stack (`bash bench/stack`), the most over packets of every n and every answer. That is this build, by the
- * compiler that built it, and no promise: measure again what is linked, and leave room above it. */
+ * Stack, in bytes, return address and memset of glibc included: packet_write 220, packet_read and packet_ids_length 744, packet_version 24 (16 of each
+ * are the measuring program's). Measured on a painted stack (`bash bench/stack`), the most over packets of every n and every answer. That is this
+ * build, by the compiler that built it, and no promise: measure again what is linked, and leave room above it. */
 
 #endif

@@ -45,7 +45,7 @@
 #define PLANNER_NODES 544                /* Annex 8.6: places and buckets of the queue */
 
 /* Annex 7.2: the answers: name, number, and when it is given, in the words of table 1 of the Annex. B, F, G and T are slots, frame, gap and last of
- * planner_open; S, P and D are start, period and deadline of planner_add; a record is what is kept of a stream. 15 is never given. */
+ * planner_open; S, P and D are release, period and deadline of planner_add; a record is what is kept of a stream. 15 is never given. */
 #define PLANNER_ANSWERS(ANSWER)                                                       \
     ANSWER(PLANNER_OK, 0, "success")                                                  \
     ANSWER(PLANNER_BAD_SLOTS, 1, "B is not 1 to 64")                                  \
@@ -55,14 +55,14 @@
     ANSWER(PLANNER_NOT_SOUND, 5, "the planner is not sound")                          \
     ANSWER(PLANNER_BAD_ID, 6, "the id is not 1 to 32,767")                            \
     ANSWER(PLANNER_ID_TAKEN, 7, "a record has the id")                                \
-    ANSWER(PLANNER_FULL, 8, "64 records are held")                                    \
+    ANSWER(PLANNER_FULL, 8, "the table has 64 records")                               \
     ANSWER(PLANNER_BAD_PERIOD, 9, "P is not 1 to 240, or does not divide F")          \
     ANSWER(PLANNER_BAD_DEADLINE, 10, "D is not 1 to P")                               \
-    ANSWER(PLANNER_BAD_START, 11, "S is not now to now + 239")                        \
+    ANSWER(PLANNER_BAD_RELEASE, 11, "S is not now to now + 239")                      \
     ANSWER(PLANNER_BREAKS_DEMAND, 12, "the table with it breaks the demand rule")     \
     ANSWER(PLANNER_BREAKS_START, 13, "the table with it breaks the start rule")       \
     ANSWER(PLANNER_NO_STREAM, 14, "no record has the id")                             \
-    ANSWER(PLANNER_SHORT_BUFFER, 16, "the buffer has fewer than B places")            \
+    ANSWER(PLANNER_SHORT_BUFFER, 16, "the buffer has fewer than B elements")          \
     ANSWER(PLANNER_LATE_START, 17, "the lazy start is after 1,000,000,000")
 
 /* The names of the answers. The calls return a uint32_t, which is compared with them. */
@@ -135,28 +135,28 @@ struct planner_held {
 /* Annex 7.40: the library's version. */
 uint32_t planner_version(void);
 
-/* Annex 7.5 to 7.9: opens the planner, whatever it held and sound or not: B = slots, F = frame, G = gap, L = last, and no stream. The gap runs from
- * the end of a round, one after its start: each start is at most last + 1 + gap, the first as if a round had been held at the last passed here.
+/* Annex 7.5 to 7.9: opens the planner, whatever its content and sound or not: B = slots, F = frame, G = gap, L = last, and no stream. The gap runs
+ * from the end of a round, one after its start: each start is at most last + 1 + gap, the first as if a round had been held at the last passed here.
  * Refuses 1 unless slots is 1 to 64, 2 unless frame is 1 to 5,040, 3 unless gap is 1 to 255, 4 if last is above 1,000,000,000; refused, it leaves
  * the closed planner. */
 uint32_t planner_open(struct planner *p, uint32_t slots, uint32_t frame, uint32_t gap, uint32_t last);
 
-/* Annex 7.10 to 7.20: adds a stream whose first packet is released at start. Refuses 5; 6 unless id is 1 to 32,767; 7 for an id that a stream has; 8
- * with 64 streams; 9 unless period is 1 to 240 and divides frame; 10 unless deadline is 1 to period; 11 unless start is last + 1 to last + 240; 12
- * if the table with it breaks the demand rule; 13 if it breaks the start rule. */
-uint32_t planner_add(struct planner *p, uint32_t id, uint32_t start, uint32_t period, uint32_t deadline);
+/* Annex 7.10 to 7.20: adds a stream whose first packet is released at `release` (S). Refuses 5; 6 unless id is 1 to 32,767; 7 for an id that a stream
+ * has; 8 with 64 streams; 9 unless period is 1 to 240 and divides frame; 10 unless deadline is 1 to period; 11 unless release is last + 1 to
+ * last + 240; 12 if the table with it breaks the demand rule; 13 if it breaks the start rule. */
+uint32_t planner_add(struct planner *p, uint32_t id, uint32_t release, uint32_t period, uint32_t deadline);
 
 /* Annex 7.22, 7.23: takes a stream out, and its unserved packet with it. Refuses 5, and 14 where there is no such stream. */
 uint32_t planner_remove(struct planner *p, uint32_t id);
 
-/* Annex 7.24 to 7.33: holds the next round: its start, and n ids in the buffer's first n places, n at most slots; later places are untouched. Of the
+/* Annex 7.24 to 7.33: holds the next round: its start, and n ids in the buffer's first n elements, n at most slots; later ones are untouched. Of the
  * packets that may ride they are the first by due time, in that order; those due at the same time go by earlier release, then by smaller id. With no
  * stream, before the first is added or after the last is taken out, the round is held at last + 1 + gap with n 0, and the buffer is left as it was.
  * Refuses 5 (the closed planner too); 16 if length is below slots, even where there is nothing to write; 17 if the start is after 1,000,000,000. 15
  * is not given. */
 struct planner_held planner_round(struct planner *p, uint16_t *buffer, size_t length);
 
-/* Annex 7.36: how many places of the buffer a round that answered n has filled, from its front: n, or length if n is above it. It refuses nothing. */
+/* Annex 7.36: how many elements of the buffer a round that answered n has filled, from its front: n, or length if n is above it. Refuses nothing. */
 size_t planner_filled(const uint16_t *buffer, size_t length, uint32_t n);
 
 #ifdef __cplusplus
@@ -211,8 +211,8 @@ PLANNER_FIELD(planner_held, n, 8);
 #undef PLANNER_ALIGN
 #undef PLANNER_ASSERT
 
-/* What is proved. What is said above of a call's answer, and of what planner and buffer hold after it, is proved of it, on every planner whatever it
- * holds, every number and every buffer; the full statement is that of the call by value (the Annex, chapters 3 to 7; of this form Annex 7.35). Of
+/* What is proved. What is said above of a call's answer, and of what planner and buffer are after it, is proved of it, on every planner whatever its
+ * content, every number and every buffer; the full statement is that of the call by value (the Annex, chapters 3 to 7; of this form Annex 7.35). Of
  * planner_round it is proved too, of every sound planner, with or without a stream, that start and ids are those of the rules, that no packet is
  * late and that no plan needs fewer rounds (Annex 12.4 and 12.6 to 12.13); with no stream, that no plan which keeps the gap limit holds its k-th
  * round later (Annex 7.32 and 12.14).
@@ -239,19 +239,20 @@ PLANNER_FIELD(planner_held, n, 8);
  *   - the same version in every host on a bus (Annex 13.8).
  *
  * Versions. A host that compares planner_version() with PLANNER_VERSION finds out a library of another version than the header it was compiled with;
- * earlier libraries have no such function, and a program that calls it does not link with them. Nothing in a planner says which version kept it, and
- * no call refuses it for that.
+ * earlier libraries have no such function, and a program that calls it does not link with them. Nothing in a planner says which version made it, and
+ * no call refuses it for that (Annex 13.8).
  *   - Versions 1 to 5 counted the gap from a round's start: a host with this version and one with an earlier one part at the first round that only
  *     the gap forces, held here at last + 1 + gap, there at last + gap.
- *   - Versions 1 and 2, whose queue had no `releases`, have another layout, 3,608 bytes, where a planner now has 3,864; one that they kept must be
+ *   - Versions 1 and 2, whose queue had no `releases`, have another layout, 3,608 bytes, where a planner now has 3,864; one that they made must be
  *     opened anew.
  *
  * What the library needs from outside: memcpy and memset as C has them, and nothing else (`nm -u libplanner.a` lists them). A program without a C
  * library has to have its own, as examples/c/freestanding.c has. No heap; no pointer is kept, and no call writes anything but what it is lent and
  * its stack. Every call returns, if these two do and the stack is large enough; nothing tests that it is (Annex 13.9).
  *
- * Stack, in bytes, return address and memcpy and memset of glibc included: open 1,112, add 15,880, remove 15,032, round 21,736, filled 24 (16 of each
- * are the measuring program's). Measured on a painted stack (`bash bench/stack`), the most over calls of every answer on a dozen tables with up to
- * 64 streams. That is this build, by the compiler that built it, and no promise: measure again what is linked, and leave room above it. */
+ * Stack, in bytes, return address and memcpy and memset of glibc included: open 1,112, add 15,880, remove 15,032, round 21,736, filled and version
+ * 24 (16 of each are the measuring program's). Measured on a painted stack (`bash bench/stack`), the most over calls of every answer on a dozen
+ * tables with up to 64 streams. That is this build, by the compiler that built it, and no promise: measure again what is linked, and leave room
+ * above it. */
 
 #endif

@@ -32,7 +32,7 @@
 #define SUPERFRAME_ANSWERS(ANSWER)                                                        \
     ANSWER(SUPERFRAME_OK, 0, "success")                                                   \
     ANSWER(SUPERFRAME_BAD_PERIOD, 18, "a period of the list is not 1 to 240")             \
-    ANSWER(SUPERFRAME_TOO_LONG, 19, "the least common multiple is above 5,040")
+    ANSWER(SUPERFRAME_LONG_FRAME, 19, "the least common multiple is above 5,040")
 
 /* The names of the answers. */
 #define SUPERFRAME_NAME(name, number, text) name = number,

@@ -8,9 +8,9 @@
 static struct planner kept = PLANNER_INIT;
 
 /* A stream offered to a planner with no other; now is 1. */
-static uint32_t offered(uint32_t frame, uint32_t id, uint32_t start, uint32_t period) {
+static uint32_t offered(uint32_t frame, uint32_t id, uint32_t release, uint32_t period) {
     planner_open(&kept, 1, frame, 1, 0);
-    return planner_add(&kept, id, start, period, period);
+    return planner_add(&kept, id, release, period, period);
 }
 
 /* The last of so many streams, offered one after the other. */

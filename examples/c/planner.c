@@ -1,5 +1,5 @@
-/* The planner's lines of the example in crates/rounds/stdin (Annex, C.1), by a program that keeps one planner and lends it to each call. At the end it
- * looks whether the library wrote the fields where planner.h says they are. */
+/* The planner's lines of the example in crates/rounds/stdin (Annex, C.1), by a program that keeps one planner and lends it to each call. At the end
+ * it looks whether the library wrote the fields where planner.h says they are. */
 #include <stdio.h>
 #include <string.h>
 
@@ -7,8 +7,8 @@
 
 static struct planner kept = PLANNER_INIT;
 
-static void add(uint32_t id, uint32_t start, uint32_t period, uint32_t deadline) {
-    printf("A,%u,%u\n", (unsigned)id, (unsigned)planner_add(&kept, id, start, period, deadline));
+static void add(uint32_t id, uint32_t release, uint32_t period, uint32_t deadline) {
+    printf("A,%u,%u\n", (unsigned)id, (unsigned)planner_add(&kept, id, release, period, deadline));
 }
 
 static void hold(void) {

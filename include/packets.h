@@ -149,8 +149,8 @@ PACKET_FIELD(packet_header, n, 12);
  * What these calls need from outside: memset as C has it, and nothing else (`nm -u libplanner.a`, packets.o). No heap; no pointer is kept; a call
  * writes nothing but the packet that it is lent and its stack, and returns.
  *
- * Stack, in bytes, return address and memset of glibc included: packet_write 220, packet_read and packet_ids_length 744, packet_version 24 (16 of each
- * are the measuring program's). Measured on a painted stack (`bash bench/stack`), the most over packets of every n and every answer. That is this
- * build, by the compiler that built it, and no promise: measure again what is linked, and leave room above it. */
+ * Stack, in bytes, return address and memset of glibc included: packet_write 220, packet_read and packet_ids_length 744, packet_version 24 (16 of
+ * each are the measuring program's). Measured on a painted stack (`bash bench/stack`), the most over packets of every n and every answer. That is
+ * this build, by the compiler that built it, and no promise: measure again what is linked, and leave room above it. */
 
 #endif

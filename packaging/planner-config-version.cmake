@@ -1,18 +1,23 @@
-# The first number is the one that hosts compare: a version with another one is refused, and so is one that is asked for and later than this.
+# The first number is the one that hosts compare: what asks for another one, or for a later version than this, does not find this one. A range has to
+# begin with this number and to end before the next.
 set(PACKAGE_VERSION "@VERSION@")
-string(REGEX MATCH "^[0-9]+" _planner_first "${PACKAGE_VERSION}")
 set(PACKAGE_VERSION_COMPATIBLE FALSE)
-if(PACKAGE_FIND_VERSION_RANGE)
-    # a range has to lie within the same first number
-    if(PACKAGE_FIND_VERSION_MIN_MAJOR STREQUAL _planner_first AND NOT PACKAGE_VERSION VERSION_LESS PACKAGE_FIND_VERSION_MIN
-            AND (PACKAGE_VERSION VERSION_LESS PACKAGE_FIND_VERSION_MAX
-                 OR (PACKAGE_FIND_VERSION_RANGE_MAX STREQUAL "INCLUDE" AND PACKAGE_VERSION VERSION_EQUAL PACKAGE_FIND_VERSION_MAX)))
-        set(PACKAGE_VERSION_COMPATIBLE TRUE)
-    endif()
-elseif(PACKAGE_FIND_VERSION_MAJOR STREQUAL _planner_first AND NOT PACKAGE_VERSION VERSION_LESS PACKAGE_FIND_VERSION)
+string(REGEX MATCH "^[0-9]+" _planner_first "${PACKAGE_VERSION}")
+math(EXPR _planner_next "${_planner_first} + 1")
+if(PACKAGE_FIND_VERSION_MAJOR STREQUAL _planner_first AND PACKAGE_VERSION VERSION_GREATER_EQUAL PACKAGE_FIND_VERSION)
     set(PACKAGE_VERSION_COMPATIBLE TRUE)
     if(PACKAGE_VERSION VERSION_EQUAL PACKAGE_FIND_VERSION)
         set(PACKAGE_VERSION_EXACT TRUE)
+    endif()
+endif()
+# of a range the number above is its beginning
+if(PACKAGE_FIND_VERSION_RANGE_MAX STREQUAL "INCLUDE")
+    if(PACKAGE_VERSION VERSION_GREATER PACKAGE_FIND_VERSION_MAX OR PACKAGE_FIND_VERSION_MAX VERSION_GREATER_EQUAL _planner_next)
+        set(PACKAGE_VERSION_COMPATIBLE FALSE)
+    endif()
+elseif(PACKAGE_FIND_VERSION_RANGE_MAX STREQUAL "EXCLUDE")
+    if(PACKAGE_VERSION VERSION_GREATER_EQUAL PACKAGE_FIND_VERSION_MAX OR PACKAGE_FIND_VERSION_MAX VERSION_GREATER _planner_next)
+        set(PACKAGE_VERSION_COMPATIBLE FALSE)
     endif()
 endif()
 # the library is built for a 64-bit x86 machine
@@ -20,3 +25,4 @@ if(CMAKE_SIZEOF_VOID_P AND NOT CMAKE_SIZEOF_VOID_P EQUAL 8)
     set(PACKAGE_VERSION_UNSUITABLE TRUE)
 endif()
 unset(_planner_first)
+unset(_planner_next)

@@ -1,0 +1,32 @@
+-- The contents, chapters with their sections, as the template's variable `contents`; and a table's frame, which scrolls sideways.
+-- A table has as many classes as it needs: its count of columns. Widths are left to the browser.
+
+local function entry(header) return pandoc.Plain({ pandoc.Link(header.content, "#" .. header.identifier) }) end
+
+local function contents(blocks)
+  local chapters = pandoc.List()
+  for _, block in ipairs(blocks) do
+    if block.t == "Header" and block.level == 2 then
+      chapters:insert(pandoc.List({ entry(block) }))
+    elseif block.t == "Header" and block.level == 3 and #chapters > 0 then
+      local chapter = chapters[#chapters]
+      if not chapter[2] then chapter:insert(pandoc.BulletList({})) end
+      local sections = chapter[2].content
+      sections:insert({ entry(block) })
+      chapter[2] = pandoc.BulletList(sections)
+    end
+  end
+  return pandoc.BulletList(chapters)
+end
+
+function Table(tbl)
+  local specs = pandoc.List()
+  for _, spec in ipairs(tbl.colspecs) do specs:insert({ spec[1], nil }) end
+  tbl.colspecs = specs
+  return pandoc.Div({ tbl }, pandoc.Attr("", { "table", "columns-" .. #specs }, { tabindex = "0" }))
+end
+
+function Pandoc(doc)
+  doc.meta.contents = pandoc.MetaBlocks({ contents(doc.blocks) })
+  return doc
+end

@@ -1,5 +1,5 @@
 -- The contents, chapters with their sections, as the template's variable `contents`; and a table's frame, which scrolls sideways.
--- A table has as many classes as it needs: its count of columns. Widths are left to the browser.
+-- Widths are left to the browser; the frame's classes say how many columns there are, and whether the last has clauses.
 
 local function entry(header) return pandoc.Plain({ pandoc.Link(header.content, "#" .. header.identifier) }) end
 
@@ -23,7 +23,10 @@ function Table(tbl)
   local specs = pandoc.List()
   for _, spec in ipairs(tbl.colspecs) do specs:insert({ spec[1], nil }) end
   tbl.colspecs = specs
-  return pandoc.Div({ tbl }, pandoc.Attr("", { "table", "columns-" .. #specs }, { tabindex = "0" }))
+  local heads = tbl.head.rows[1].cells
+  local classes = pandoc.List({ "table", "columns-" .. #specs })
+  if pandoc.utils.stringify(heads[#heads].contents):match("^clauses?$") then classes:insert("with-clauses") end
+  return pandoc.Div({ tbl }, pandoc.Attr("", classes, { tabindex = "0" }))
 end
 
 function Pandoc(doc)

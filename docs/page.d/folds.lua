@@ -100,7 +100,8 @@ local function folded(paragraph)
   end))
   if #groups == 0 then return nil end
   local summary = names and "stated by" or "proof"
-  return { paragraph, raw('<details class="by"><summary>' .. summary .. "</summary>"), pandoc.Para(lines(groups)), raw("</details>") }
+  local fold = { paragraph, raw('<details class="by"><summary>' .. summary .. "</summary>"), pandoc.Para(lines(groups)), raw("</details>") }
+  return pandoc.Div(fold, pandoc.Attr("", { "said" }))
 end
 
 -- the bracket as it stands, marked; at the end of a paragraph it is no example

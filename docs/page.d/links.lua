@@ -5,7 +5,9 @@ local text_of = pandoc.utils.stringify
 local ids = {}
 
 local units = {}
-for unit in ("% ‰ s ms µs us ns mm cm km kB MB GB kHz MHz GHz mA mW seconds minutes hours days years times million bytes bits units"):gmatch("%S+") do units[unit] = true end
+for unit in ("% ‰ s ms µs ns mm km kB MB GB kHz MHz GHz mA mW seconds minutes hours days years times million bytes bits units"):gmatch("%S+") do
+  units[unit] = true
+end
 
 local function is_blank(inline) return inline and (inline.t == "Space" or inline.t == "SoftBreak") end
 local function word(inline) return inline and inline.t == "Str" and inline.text or "" end
@@ -44,6 +46,8 @@ local kinds = {
   { one = "^[Tt]able$", more = "^[Tt]ables$", number = "^%d+$", prefix = "table-" },
 }
 
+local joints = { to = true, ["and"] = true, ["or"] = true }
+
 -- the id that the string at `at` gives as a number of that kind, the number, and what stands behind it
 local function target(inlines, at, kind)
   local number, rest = word(inlines[at]):match("^(%w+)(.*)$")
@@ -62,7 +66,7 @@ local function named(inlines, at)
         pandoc.Str(rest) })
       at = at + 3
       while name:match(kind.more) and (rest == "" or rest == ",") and is_blank(inlines[at]) do
-        local joint = word(inlines[at + 1]):match("^%l+$") and is_blank(inlines[at + 2]) and 2 or 0
+        local joint = joints[word(inlines[at + 1])] and is_blank(inlines[at + 2]) and 2 or 0
         id, number, rest = target(inlines, at + joint + 1, kind)
         if not id then break end
         for k = at, at + joint do out:insert(inlines[k]) end

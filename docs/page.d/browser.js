@@ -80,12 +80,13 @@ async function shot(name) {
 }
 
 // the places that a look is worth, each with the clause's fold opened, as a reader comes to them
-const places = ["", "c4.6", "c7.11", "c7.37", "table-1", "C.1", "C.3", "C.5", "D", "w-sound", "r12", "A"];
+const places = ["", "versions", "the-bus", "c4.6", "c4.13", "c7.11", "c7.37", "table-1", "r12", "A", "C.1", "C.3", "C.5", "C.8", "D", "w-sound", "E", "F"];
 
 async function screen(name, width, height, scale, mobile, scheme, names) {
   await load(width, height, scale, mobile, scheme);
   complaints.push(...(await evaluate(`(${faults})()`)).map((fault) => `${name}: ${fault}`));
   for (const place of names) {
+    if (place && !(await evaluate(`!!document.getElementById("${place}")`))) continue;
     await evaluate(`(() => { const at = document.getElementById("${place}");
       const fold = at && (at.querySelector("details") || (at.nextElementSibling || at).closest("details"));
       if (fold) fold.open = true; location.hash = "${place}"; if (!at) scrollTo(0, 0); })()`);
@@ -107,7 +108,7 @@ async function run() {
   for (const domain of ["Page", "Runtime", "Log", "Network"]) await send(`${domain}.enable`);
   await screen("laptop", 1280, 900, 1, false, "light", places);
   await screen("wide", 1600, 1000, 1, false, "light", ["", "c7.11", "table-1"]);
-  await screen("dark", 1280, 900, 1, false, "dark", ["", "c7.11", "C.1"]);
+  await screen("dark", 1280, 900, 1, false, "dark", ["", "the-bus", "c7.11", "C.1"]);
   await screen("phone", 390, 844, 2, true, "light", places);
   await print();
 }

@@ -1,5 +1,6 @@
 -- The contents, chapters with their sections, as the template's variable `contents`; and a table's frame, which scrolls sideways.
--- Widths are left to the browser; the frame's classes say how many columns there are, and whether the last has clauses.
+-- Widths are left to the browser; the frame's classes say how many columns there are, whether the last has clauses, and whether
+-- the table is short, so that a printed page need not cut it.
 
 local function entry(header) return pandoc.Plain({ pandoc.Link(header.content, "#" .. header.identifier) }) end
 
@@ -26,6 +27,7 @@ function Table(tbl)
   local heads = tbl.head.rows[1].cells
   local classes = pandoc.List({ "table", "columns-" .. #specs })
   if pandoc.utils.stringify(heads[#heads].contents):match("^clauses?$") then classes:insert("with-clauses") end
+  if #tbl.bodies[1].body <= 9 then classes:insert("short") end
   return pandoc.Div({ tbl }, pandoc.Attr("", classes, { tabindex = "0" }))
 end
 

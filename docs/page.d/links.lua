@@ -130,15 +130,16 @@ local function linking(in_clause)
   return { Para = with, Plain = with }
 end
 
--- a cell that is one capital letter is an appendix: the glossary's column of clauses has such
-local function letters(tbl)
+-- the glossary's column of clauses may name an appendix, "A", or a page without a number, "the bus"
+local function last_cells(tbl)
   local bodies = tbl.bodies
   for _, body in ipairs(bodies) do
     for _, row in ipairs(body.body) do
       local last = row.cells[#row.cells]
-      local letter = text_of(last.contents):match("^%u$")
-      if row.identifier ~= "" and letter and ids[letter] then
-        last.contents = { pandoc.Plain({ pandoc.Link(letter, "#" .. letter) }) }
+      local text = text_of(last.contents)
+      local id = text:match("^%u$") or text:match("^%a[%a ]+$") and text:lower():gsub(" ", "-")
+      if row.identifier:match("^w%-") and id and ids[id] then
+        last.contents = { pandoc.Plain({ pandoc.Link(text, "#" .. id) }) }
       end
     end
   end
@@ -163,7 +164,7 @@ function Pandoc(doc)
     if block.t ~= "Header" then
       local in_clause = block.t == "Div" and block.classes:includes("clause")
       block = pandoc.walk_block(pandoc.Div({ block }), linking(in_clause)).content[1]
-      block = pandoc.walk_block(pandoc.Div({ block }), { Table = letters }).content[1]
+      block = pandoc.walk_block(pandoc.Div({ block }), { Table = last_cells }).content[1]
     end
     blocks:insert(block)
   end

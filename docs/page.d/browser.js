@@ -80,7 +80,8 @@ async function shot(name) {
 }
 
 // the places that a look is worth, each with the clause's fold opened, as a reader comes to them
-const places = ["", "versions", "the-bus", "c4.6", "c4.13", "c7.11", "c7.37", "table-1", "r12", "A", "C.1", "C.3", "C.5", "C.8", "D", "w-sound", "E", "F"];
+const places = ["", "versions", "the-bus", "c4.6", "c4.13", "c7.11", "c7.37", "table-1", "r12",
+  "A", "C.1", "C.3", "C.5", "C.8", "D", "w-sound", "E", "F"];
 
 async function screen(name, width, height, scale, mobile, scheme, names) {
   await load(width, height, scale, mobile, scheme);

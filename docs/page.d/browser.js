@@ -114,8 +114,15 @@ async function run() {
   await print();
 }
 
-run().catch((error) => complaints.push(String(error))).then(() => {
+// until the verdict the run counts as failed, so that a browser that dies is no pass
+process.exitCode = 1;
+const ended = new Promise((resolve) => browser.on("exit", resolve).on("error", resolve));
+browser.stdio[3].on("error", () => {});
+const died = ended.then(() => { throw new Error(`${chromium} has ended`); });
+
+Promise.race([run(), died]).catch((error) => complaints.push(String(error))).then(async () => {
   browser.kill();
+  await ended;
   for (const complaint of new Set(complaints)) console.error(complaint);
   console.log(complaints.length ? "the page fails in the browser" : `the page loads, its links lead somewhere; pictures and PDF in ${folder}`);
   process.exitCode = complaints.length ? 1 : 0;

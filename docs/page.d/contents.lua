@@ -27,7 +27,7 @@ function Table(tbl)
   local heads = tbl.head.rows[1].cells
   local classes = pandoc.List({ "table", "columns-" .. #specs })
   if pandoc.utils.stringify(heads[#heads].contents):match("^clauses?$") then classes:insert("with-clauses") end
-  if #tbl.bodies[1].body <= 9 then classes:insert("short") end
+  if #tbl.bodies[1].body <= 6 then classes:insert("short") end
   return pandoc.Div({ tbl }, pandoc.Attr("", classes, { tabindex = "0" }))
 end
 

@@ -131,7 +131,7 @@ function Pandoc(doc)
       blocks:insert(block)
       if place == "theorems" then blocks:insert(raw('<details class="theorems"><summary>the theorems, for a reader of the proofs</summary>')) end
     else
-      local with = place == "front" and in_front or place == "theorems" and in_theorems or folded
+      local with = place == "front" and block.t ~= "Div" and in_front or place == "theorems" and in_theorems or folded
       blocks:extend(walked(block, with))
     end
   end

@@ -20,9 +20,9 @@
  *      number of bytes that came;
  *   3. ids and packet do not overlap, and nobody else reads or writes either during a call.
  *
- * The rest: what each call does and refuses stands at its prototype; what C has to keep, what is proved and what is not, and stack at the end of
- * this file. examples/c/host.c writes packets, examples/c/packet.c reads them too; examples/packets in the repository has packets as files, good and
- * bad. The specification is chapter 10 of the Annex, docs/ANNEX.md, in the bundle doc/annex.html. */
+ * The rest: what each call does and refuses stands at its prototype; what C has to keep, what is proved and what is not, versions and stack at the
+ * end of this file. examples/c/host.c writes packets, examples/c/packet.c reads them too; vectors/ has packets, good and bad, with their answers. The
+ * specification is chapter 10 of the Annex, docs/ANNEX.md, in the bundle doc/annex.html. */
 #ifndef PACKETS_H
 #define PACKETS_H
 

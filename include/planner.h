@@ -42,7 +42,6 @@
 #define PLANNER_LONGEST_PERIOD 240       /* Annex 3.7: P */
 #define PLANNER_FURTHEST_RELEASE 239     /* Annex 3.8: so far after now, which is last + 1, a stream's first packet may be released */
 #define PLANNER_LAST_START 1000000000    /* Annex 1.3: no round starts later */
-#define PLANNER_NODES 544                /* Annex 8.6: places and buckets of the queue */
 
 /* Annex 7.2: the answers: name, number, and when it is given, in the words of table 1 of the Annex. B, F, G and T are slots, frame, gap and last of
  * planner_open; S, P and D are release, period and deadline of planner_add; a record is what is kept of a stream. 15 is never given. */
@@ -98,7 +97,8 @@ struct planner_table {
     struct planner_stream streams[PLANNER_PLACES];
 };
 
-/* Annex 8.6: the queue of due times and releases. Its fields are for the library alone. */
+/* Annex 8.6: the queue of due times and releases, whose nodes are 64 places and 480 buckets. Its fields are for the library alone. */
+#define PLANNER_NODES 544
 struct planner_queue {
     uint16_t ids[PLANNER_PLACES];
     uint32_t keys[PLANNER_PLACES];

@@ -1,4 +1,4 @@
-/* The example of crates/rounds/stdin with no C library: memcpy and memset are all that the proved libraries need from outside. Exits with 0 if
+/* The three rounds of the Annex, C.1, with no C library: memcpy and memset are all that the proved libraries need from outside. Exits with 0 if
  * each answer is the one expected, else with the number of the first that is not. For x86-64 Linux. */
 #include "packets.h"
 #include "planner.h"

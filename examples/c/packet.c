@@ -1,5 +1,5 @@
-/* From a round to the air and back: a host keeps a planner, holds the three rounds of crates/rounds/stdin and writes each as a packet; a head
- * reads it and looks whether it sends. Prints a line a round: the packet's bytes in hex, then what was read, as ANSWER,START,B,N and the ids. */
+/* From a round to the air and back: a host keeps a planner, holds the three rounds of the Annex, C.1, and writes each as a packet; a head reads
+ * it and looks whether it sends. Prints a line a round: the packet's bytes in hex, then what was read, as ANSWER,START,B,N and the ids. */
 #include <stdio.h>
 
 #include "packets.h"

@@ -1,5 +1,5 @@
-/* The planner's lines of the example in crates/rounds/stdin (Annex, C.1), by a program that keeps one planner and lends it to each call. At the end
- * it looks whether the library wrote the fields where planner.h says they are. */
+/* The three rounds of the Annex, C.1, as lines of the command program, by a program that keeps one planner and lends it to each call. At the end it
+ * looks whether the library wrote the fields where planner.h says they are. */
 #include <stdio.h>
 #include <string.h>
 

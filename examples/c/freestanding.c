@@ -4,16 +4,19 @@
 #include "planner.h"
 #include "superframe.h"
 
+/* The bytes written are volatile, so that no compiler makes of these loops the calls that they are. */
 void *memcpy(void *to, const void *from, size_t n) {
+    volatile unsigned char *bytes = (unsigned char *)to;
     for (size_t k = 0; k < n; k++) {
-        ((unsigned char *)to)[k] = ((const unsigned char *)from)[k];
+        bytes[k] = ((const unsigned char *)from)[k];
     }
     return to;
 }
 
 void *memset(void *to, int value, size_t n) {
+    volatile unsigned char *bytes = (unsigned char *)to;
     for (size_t k = 0; k < n; k++) {
-        ((unsigned char *)to)[k] = (unsigned char)value;
+        bytes[k] = (unsigned char)value;
     }
     return to;
 }

@@ -143,8 +143,8 @@ PACKET_FIELD(packet_header, n, 12);
  * uses its SSE2 registers, and takes size_t to be 8 bytes.
  *
  * Versions. The layout of a packet is the same in every version that has packets, 4 to 6; earlier ones have none. A program that compares
- * packet_version() with PACKET_VERSION finds out a library of another version than the header it was compiled with; versions 4 and 5 have no such
- * function, and a program that calls it does not link with them.
+ * packet_version() with PACKET_VERSION finds out a library of another version than the header it was compiled with; libraries before 6.0.0 have no
+ * such function, and a program that calls it does not link with them.
  *
  * What these calls need from outside: memset as C has it, and nothing else (`nm -u libplanner.a`, packets.o). No heap; no pointer is kept; a call
  * writes nothing but the packet that it is lent and its stack, and returns.

@@ -239,8 +239,8 @@ PLANNER_FIELD(planner_held, n, 8);
  *   - the same version in every host on a bus (Annex 13.8).
  *
  * Versions. A host that compares planner_version() with PLANNER_VERSION finds out a library of another version than the header it was compiled with;
- * earlier libraries have no such function, and a program that calls it does not link with them. Nothing in a planner says which version made it, and
- * no call refuses it for that (Annex 13.8).
+ * libraries before 6.0.0 have no such function, and a program that calls it does not link with them. Nothing in a planner says which version made it,
+ * and no call refuses it for that (Annex 13.8).
  *   - Versions 1 to 5 counted the gap from a round's start: a host with this version and one with an earlier one part at the first round that only
  *     the gap forces, held here at last + 1 + gap, there at last + gap.
  *   - Versions 1 and 2, whose queue had no `releases`, have another layout, 3,608 bytes, where a planner now has 3,864; one that they made must be

@@ -1,15 +1,28 @@
-//! The cases of packets as text, and what the oracle answers to them: the
-//! lines that `crates/packet_cases` reads and prints.
+//! The lines of `vectors/library` as text, and what the oracle answers to
+//! them: what a program over the C functions reads and prints. Those of
+//! packets are what `crates/packet_cases` reads and prints.
 //!   P BYTES                 a packet to be read, in hex with blanks anywhere
 //!   W START B LENGTH ID ..  values to be written to a buffer of that length:
 //!                           four bytes, four, two, and two an id
-//! Any other line is passed over.
+//!   S BYTES                 periods for superframe, a byte each
+//! The calls on a planner, and `filled`, are in `calls`. Any other line is
+//! passed over.
 
+use crate::calls::Calls;
 use crate::packet::{self, Read};
+use crate::planner::superframe;
 
 /// The answers to all lines.
 pub fn answers(text: &str) -> String {
-    text.lines().filter_map(answer).collect()
+    let mut calls = Calls::new();
+    let mut answers = String::new();
+    for line in text.lines() {
+        if let Some(answer) = answer(line).or_else(|| calls.answer(line)) {
+            answers.push_str(&answer);
+            answers.push('\n');
+        }
+    }
+    answers
 }
 
 fn answer(line: &str) -> Option<String> {
@@ -17,6 +30,7 @@ fn answer(line: &str) -> Option<String> {
     match line.chars().next()? {
         'P' => Some(read(&bytes)),
         'W' => Some(write(&bytes)),
+        'S' => Some(least_common_multiple(&bytes)),
         _ => None,
     }
 }
@@ -31,7 +45,7 @@ fn read(bytes: &[u8]) -> String {
     } = packet::read(bytes);
     let part = packet::ids_part(bytes);
     format!(
-        "P {answer} {start} {slots} {n} {} {}\n",
+        "P {answer} {start} {slots} {n} {} {}",
         part.len(),
         hex(part)
     )
@@ -42,7 +56,13 @@ fn write(bytes: &[u8]) -> String {
     let (start, slots) = (number(&bytes[..4]), number(&bytes[4..8]));
     let mut buffer = vec![0xee; number(&bytes[8..10]) as usize];
     let answer = packet::write(start, slots, &packet::ids(&bytes[10..]), &mut buffer);
-    format!("W {answer} {}\n", hex(&buffer))
+    format!("W {answer} {}", hex(&buffer))
+}
+
+/// The answer and the value.
+fn least_common_multiple(periods: &[u8]) -> String {
+    let (answer, value) = superframe(periods);
+    format!("S {answer} {value}")
 }
 
 fn number(bytes: &[u8]) -> u64 {

@@ -3,6 +3,7 @@
 //! before this annex (docs/ANNEX.md). The clauses that its comments give were
 //! put in afterwards.
 
+mod calls;
 mod cases;
 mod count;
 mod generate;
@@ -26,8 +27,8 @@ oracle pack START B [ID ..] writes the packet of a round, as bytes; if it is
                             refused, the answer to standard error alone
 oracle unpack               reads a packet on standard input and prints
                             ANSWER,START,B,N and ,ID for each id
-oracle cases                answers the packet cases on standard input, which
-                            are those of crates/packet_cases
+oracle cases                answers the lines of vectors/library on standard
+                            input, those of crates/packet_cases among them
 oracle selftest             checks the worked cases and itself
 ";
 

@@ -312,7 +312,8 @@ impl Planner {
     /// Annex 3.5 to 3.10: (a) all values are in range, each P divides F and
     /// ids differ; (b) each unserved packet is due after now and released at
     /// now + 239 or before; (c) the demand rule and (d) the start rule hold.
-    /// There is no queue here, so (e) is void. Used by the self-test only.
+    /// There is no queue here, so (e) is void. Used by the self-test, and by
+    /// the calls on a planner whose memory was set.
     pub fn sound(&self) -> bool {
         self.in_range()
             && self

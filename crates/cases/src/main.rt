@@ -1,4 +1,5 @@
-// The command program over the Blink paper's figure 9 as a script, and the edges of the grammar and of the calls. The expected output is written by hand.
+// The command program over all scripts of vectors/ but the long one, end to end. Input and expected output are made by vectors/make, the output by
+// the oracle.
 fn main() {
     console::run();
 }

@@ -4,7 +4,7 @@
 // Any other line is passed over. It prints of each:
 //   P ANSWER START B N LENGTH IDS   what was read; the length of the part that the second call gives, and its bytes in hex
 //   W ANSWER BYTES                  all bytes of the buffer in hex, which held ee before
-// The cases are the edges of the Annex's chapter 10; what is to be printed was written by hand.
+// The cases are the edges of the Annex's chapter 10, vectors/library/packets; what is to be printed is what the oracle answers.
 ghost use Prim.Native.Nat.{_≤_};
 ghost use lib.ListN.{length};
 use io::print_decimal;

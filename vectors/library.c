@@ -3,8 +3,8 @@
  *   W START B LENGTH ID ..   packet_write to a buffer that held ee: W ANSWER BYTES. Four bytes, four, two, and two an id
  *   S BYTES                  superframe of these periods: S ANSWER VALUE
  *   O,B,F,G,T A,id,S,P,D D,id   the calls on one planner, answered as the command program answers
- *   R LENGTH                 a round with a buffer of LENGTH places that held 60000: R ANSWER START N, and all places
- *   F LENGTH N               planner_filled: F PLACES
+ *   R LENGTH                 a round with a buffer of LENGTH elements that held 60000: R ANSWER START N, and all elements
+ *   F LENGTH N               planner_filled: F ELEMENTS
  *   M FIELD VALUE            sets slots, frame, gap or last in the planner's memory: M
  * A line ends in ` changed` where a refused call left another byte in the planner (7.3), and in ` differs` where the planner that O leaves is not
  * byte by byte what the same O leaves in other memory (7.7, 7.8); no vector expects either.
@@ -19,7 +19,7 @@
 
 #define MOST_TEXT 4096
 #define MOST_BYTES 1024
-#define MOST_PLACES 512
+#define MOST_ELEMENTS 512
 #define BEFORE 60000
 
 /* The value of a hex digit; 16 for any other byte. */
@@ -77,7 +77,7 @@ static void read_packet(const uint8_t *bytes, size_t count) {
 }
 
 static void write_packet(const uint8_t *bytes, size_t count) {
-    static uint16_t ids[MOST_PLACES];
+    static uint16_t ids[MOST_ELEMENTS];
     static uint8_t packet[MOST_BYTES];
     size_t n = count < 10 ? 0 : (count - 10) / 2;
     size_t length = number_in(bytes + 8, 2) % (MOST_BYTES + 1);
@@ -123,11 +123,11 @@ static void open_planner(struct planner *planner, const uint32_t *x) {
 
 static void hold_round(struct planner *planner, size_t length) {
     struct planner before = *planner;
-    uint16_t buffer[MOST_PLACES];
-    for (size_t i = 0; i < MOST_PLACES; i++) {
+    uint16_t buffer[MOST_ELEMENTS];
+    for (size_t i = 0; i < MOST_ELEMENTS; i++) {
         buffer[i] = BEFORE;
     }
-    struct planner_held held = planner_round(planner, buffer, length % (MOST_PLACES + 1));
+    struct planner_held held = planner_round(planner, buffer, length % (MOST_ELEMENTS + 1));
     print_number("R ", held.answer);
     print_number(" ", held.start);
     print_number(" ", held.n);
@@ -147,8 +147,8 @@ static void change(struct planner *planner, char letter, const uint32_t *x) {
 }
 
 static void give_filled(size_t length, uint32_t n) {
-    uint16_t buffer[MOST_PLACES] = {0};
-    print_number("F ", (uint32_t)planner_filled(buffer, length % (MOST_PLACES + 1), n));
+    uint16_t buffer[MOST_ELEMENTS] = {0};
+    print_number("F ", (uint32_t)planner_filled(buffer, length % (MOST_ELEMENTS + 1), n));
     printf("\n");
 }
 

@@ -84,8 +84,8 @@ fn the_examples_have_no_text_over_text() {
             include_bytes!("../station/answers").as_slice(),
         ),
         (
-            include_bytes!("../ties/script"),
-            include_bytes!("../ties/answers"),
+            include_bytes!("../../vectors/ties/script"),
+            include_bytes!("../../vectors/ties/script.answers"),
         ),
         (b"", b""),
         (b"O,0,0,0,0\nR\n", b"O,1\nR,5\n"),

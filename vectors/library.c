@@ -9,7 +9,7 @@
  * A line ends in ` changed` where a refused call left another byte in the planner (7.3), and in ` differs` where the planner that O leaves is not
  * byte by byte what the same O leaves in other memory (7.7, 7.8); no vector expects either.
  * Bytes are in hex with blanks anywhere. Any other line is passed over. Each line is as one of vectors/library: nothing tests that.
- * To build it: cc -std=c99 -Iinclude vectors/library.c -Ltarget/lib -lplanner */
+ * To build it, LIB being lib of the bundle or target/lib of the repository: cc -std=c99 -Iinclude vectors/library.c -LLIB -lplanner -o library */
 #include "packets.h"
 #include "planner.h"
 #include "superframe.h"

@@ -1,9 +1,9 @@
-/* A program over the C functions that answers the lines of vectors/library, so that `vectors/run HOST LIBRARY` can hold a library to them:
+/* A program over the C functions that answers the lines of vectors/library, so that `vectors/run HOST LIBRARY` can try a library:
  *   P BYTES                  packet_read and packet_ids_length: P ANSWER START B N LENGTH IDS
- *   W START B LENGTH ID ..   packet_write to a buffer that held ee: W ANSWER BYTES. Four bytes, four, two, and two an id
+ *   W START B LENGTH ID ..   packet_write to a buffer filled with ee: W ANSWER BYTES. Four bytes, four, two, and two an id
  *   S BYTES                  superframe of these periods: S ANSWER VALUE
  *   O,B,F,G,T A,id,S,P,D D,id   the calls on one planner, answered as the command program answers
- *   R LENGTH                 a round with a buffer of LENGTH elements that held 60000: R ANSWER START N, and all elements
+ *   R LENGTH                 a round with a buffer of LENGTH elements, each 60000: R ANSWER START N, and all elements
  *   F LENGTH N               planner_filled: F ELEMENTS
  *   M FIELD VALUE            sets slots, frame, gap or last in the planner's memory: M
  * A line ends in ` changed` where a refused call left another byte in the planner (7.3), and in ` differs` where the planner that O leaves is not

@@ -48,7 +48,7 @@ pub record RoundIsLazy (p : Planner) (before after : List ℕ) (r : Rounded) : T
   pub slots : r .answer ≡ 0 → WritesSlots p after r
   pub without-streams : content p .table ≡ [] → RoundIsAtCap p before after r
 
--- Annex 6.6: some plan serves the table, all starts put together: every unserved packet's release and the plan's moment at 0.
+-- Annex 6.6: some plan serves the table with all releases at 0: every unserved packet's, and the plan's moment.
 abbrev pub ServableTogether : Content → Type 0
 ServableTogether h = Servable (slots-of h) 0 (map at-zero (streams-in h))
 
@@ -65,7 +65,7 @@ pub record AddIsExact (h : Content) (r : Changed) : Type 0 where
   pub refused : (r .answer ≡ 0 → ⊥) ↔ ((ServableTogether h → ⊥) ∨₁ (ServableFromNow h → ⊥))
   pub stored : r .answer ≡ 0 → IsSoundWith h (r .planner)
 
--- Annex 12.4, 12.5: of every sound planner: each round into a buffer of at least B places, and each add of a well-formed stream with a place free.
+-- Annex 12.4, 12.5: of every sound planner: each round into a buffer of at least B elements, and each add of a well-formed stream with a place free.
 pub record Demand2 : Type 0 where
   pub round-is-lazy : (p : Planner) → Sound p → (before after : List ℕ) → content p .setting .slots ≤ length before
       → (r : Rounded) → IsRound p before after r → RoundIsLazy p before after r

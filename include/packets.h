@@ -1,12 +1,13 @@
 /* packets.h: the schedule packet, the bytes that tell heads of a round: a writer, for a host, and a reader, for a head's firmware.
+ * It needs C99 or later, or C++11 or later.
  *
- * A host writes what a round of planner.h answered; a head reads the bytes that came, and looks whether its id is among them:
+ * A host writes what a round of planner.h answered; a head reads the bytes that came, and looks whether the id of its stream is among them:
  *
  *     uint8_t packet[PACKET_MOST_BYTES] = {0};
  *     uint32_t answer = packet_write(held.start, p.slots, ids, held.n, packet, sizeof packet);
- *     if (answer == PACKET_OK) { send(packet, PACKET_BYTES(held.n)); }                                // the host's own radio
- *     struct packet_header read = packet_read(packet, length);                                        // length: how many bytes came
- *     if (read.answer == PACKET_OK && packet_has(packet, length, my_id)) { wake_at(read.start); }     // the head's own clock
+ *     if (answer == PACKET_OK) { radio_send(packet, PACKET_BYTES(held.n)); }                                  // the host's own radio
+ *     struct packet_header header = packet_read(packet, length);                                              // length: how many bytes came
+ *     if (header.answer == PACKET_OK && packet_has(packet, length, my_stream)) { wake_at(header.start); }     // the head's own clock
  *
  * The order of calls: any. No call knows of another; packet_ids_length and packet_has test the whole packet again, packet_id tests nothing and is
  * for a packet that packet_read answered with 0.
@@ -14,7 +15,7 @@
  * An answer is 0, PACKET_OK, or the number of the first refusal that applies, which has a name below; packet_text(answer) says it in words. A
  * refused write writes nothing; a refused read gives zeros beside its number.
  *
- * Three things that a caller must see to, since no call can test them:
+ * Three things that a caller must see to, which no call tests:
  *   1. no pointer is null, also where its length or n is 0, and ids is aligned for its type;
  *   2. ids points to n ids that can be read, packet to `length` bytes that can be read and, for packet_write, written; to read, length is just the
  *      number of bytes that came;
@@ -36,11 +37,18 @@
  * n; then n ids of two bytes each, the most significant first, in the order of the round's slots.
  * Annex 10.3: a packet is good if its start is at most 1,000,000,000, slots is 1 to 64, n is at most slots, and the ids are 1 to 32,767 with none
  * twice. */
-#define PACKET_BYTES(n) (6 + 2 * (size_t)(n)) /* the bytes of a packet with n ids */
-#define PACKET_MOST_BYTES 134                 /* those of the longest good packet */
+#define PACKET_BYTES(n) (6 + 2 * PACKET_CAST(size_t, n)) /* the bytes of a packet with n ids */
+#define PACKET_MOST_BYTES 134                            /* those of the longest good packet */
 #define PACKET_MOST_SLOTS 64
 #define PACKET_LARGEST_ID 32767
 #define PACKET_LAST_START 1000000000
+
+/* A cast in the language's own manner: C++ may warn of C's (-Wold-style-cast). */
+#ifdef __cplusplus
+#define PACKET_CAST(type, value) static_cast<type>(value)
+#else
+#define PACKET_CAST(type, value) ((type)(value))
+#endif
 
 /* The answers: name, number, and when it is given, in the words of table 1 of the Annex. */
 #define PACKET_ANSWERS(ANSWER)                                                             \
@@ -96,9 +104,11 @@ size_t packet_ids_length(const uint8_t *packet, size_t length);
 #endif
 
 /* The id in slot k, from 0, of a packet that was read with answer 0; k is below its n. */
-static inline uint16_t packet_id(const uint8_t *packet, size_t k) { return (uint16_t)(packet[6 + 2 * k] << 8 | packet[7 + 2 * k]); }
+static inline uint16_t packet_id(const uint8_t *packet, size_t k) {
+    return PACKET_CAST(uint16_t, packet[6 + 2 * k] << 8 | packet[7 + 2 * k]);
+}
 
-/* Whether a packet of `length` bytes is good and lists an id: whether a head sends in this round. */
+/* Whether a packet of `length` bytes is good and lists the id of a stream: whether that stream's head sends in this round. */
 static inline int packet_has(const uint8_t *packet, size_t length, uint16_t id) {
     size_t ids = packet_ids_length(packet, length) / 2;
     for (size_t k = 0; k < ids; k++) {

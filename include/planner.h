@@ -1,7 +1,8 @@
 /* planner.h: the lazy round planner, for a host or firmware that keeps one planner in its memory and lends it to each call.
+ * It needs C99 or later, or C++11 or later.
  *
- * Radio heads on batteries sleep between rounds. The planner says when the next round starts, as late as every deadline allows, and which streams
- * send in it, the earliest deadline first. A host opens a planner, adds a stream for each head, and asks for one round after the other:
+ * Radio heads on batteries sleep between rounds. The planner says when the next round starts, as late as every deadline and the gap allow, and which
+ * streams send in it, the earliest deadline first. A host opens a planner, adds a stream for each head, and asks for one round after the other:
  *
  *     static struct planner p = PLANNER_INIT;
  *     uint16_t ids[PLANNER_MOST_SLOTS] = {0};
@@ -14,11 +15,11 @@
  *
  * An answer is 0, PLANNER_OK, or the number of the first refusal that applies, which has a name below; planner_text(answer) says it in words. A
  * refused add, remove or round changes nothing, and the same call may succeed later. A refused open leaves a closed planner, which the others
- * refuse with 5.
+ * refuse with 5. 5 is no checksum: damage that leaves a planner sound is not found (the end of this file says more).
  *
- * Three things that a caller must see to, since no call can test them:
- *   1. the memory: no pointer is null, a buffer has the length that is passed, planner and buffer do not overlap, nobody else touches them during a
- *      call, and nobody but the calls writes a planner;
+ * Three things that a caller must see to, which no call tests:
+ *   1. the memory: no pointer is null and each is aligned; a planner has been written before it is lent (PLANNER_INIT will do); a buffer has the
+ *      length that is passed; planner and buffer do not overlap; nobody else touches them during a call;
  *   2. the stack: a round takes some 22 kB of it, add and remove some 16 kB;
  *   3. the version: it is the same in every host on a bus.
  *
@@ -45,23 +46,23 @@
 
 /* Annex 7.2: the answers: name, number, and when it is given, in the words of table 1 of the Annex. B, F, G and T are slots, frame, gap and last of
  * planner_open; S, P and D are release, period and deadline of planner_add; a record is what is kept of a stream. 15 is never given. */
-#define PLANNER_ANSWERS(ANSWER)                                                       \
-    ANSWER(PLANNER_OK, 0, "success")                                                  \
-    ANSWER(PLANNER_BAD_SLOTS, 1, "B is not 1 to 64")                                  \
-    ANSWER(PLANNER_BAD_FRAME, 2, "F is not 1 to 5,040")                               \
-    ANSWER(PLANNER_BAD_GAP, 3, "G is not 1 to 255")                                   \
-    ANSWER(PLANNER_BAD_LAST, 4, "T is above 1,000,000,000")                           \
-    ANSWER(PLANNER_NOT_SOUND, 5, "the planner is not sound")                          \
-    ANSWER(PLANNER_BAD_ID, 6, "the id is not 1 to 32,767")                            \
-    ANSWER(PLANNER_ID_TAKEN, 7, "a record has the id")                                \
-    ANSWER(PLANNER_FULL, 8, "the table has 64 records")                               \
-    ANSWER(PLANNER_BAD_PERIOD, 9, "P is not 1 to 240, or does not divide F")          \
-    ANSWER(PLANNER_BAD_DEADLINE, 10, "D is not 1 to P")                               \
-    ANSWER(PLANNER_BAD_RELEASE, 11, "S is not now to now + 239")                      \
-    ANSWER(PLANNER_BREAKS_DEMAND, 12, "the table with it breaks the demand rule")     \
-    ANSWER(PLANNER_BREAKS_START, 13, "the table with it breaks the start rule")       \
-    ANSWER(PLANNER_NO_STREAM, 14, "no record has the id")                             \
-    ANSWER(PLANNER_SHORT_BUFFER, 16, "the buffer has fewer than B elements")          \
+#define PLANNER_ANSWERS(ANSWER)                                                           \
+    ANSWER(PLANNER_OK, 0, "success")                                                      \
+    ANSWER(PLANNER_BAD_SLOTS, 1, "B, the slots, is not 1 to 64")                          \
+    ANSWER(PLANNER_BAD_FRAME, 2, "F, the superframe, is not 1 to 5,040")                  \
+    ANSWER(PLANNER_BAD_GAP, 3, "G, the gap, is not 1 to 255")                             \
+    ANSWER(PLANNER_BAD_LAST, 4, "T, the last start, is above 1,000,000,000")              \
+    ANSWER(PLANNER_NOT_SOUND, 5, "the planner is not sound: not open, or damaged")        \
+    ANSWER(PLANNER_BAD_ID, 6, "the id is not 1 to 32,767")                                \
+    ANSWER(PLANNER_ID_TAKEN, 7, "a record has the id")                                    \
+    ANSWER(PLANNER_FULL, 8, "the table has 64 records")                                   \
+    ANSWER(PLANNER_BAD_PERIOD, 9, "P, the period, is not 1 to 240, or does not divide F") \
+    ANSWER(PLANNER_BAD_DEADLINE, 10, "D, the deadline, is not 1 to P")                    \
+    ANSWER(PLANNER_BAD_RELEASE, 11, "S, the first release, is not now to now + 239")      \
+    ANSWER(PLANNER_BREAKS_DEMAND, 12, "the table with it breaks the demand rule")         \
+    ANSWER(PLANNER_BREAKS_START, 13, "the table with it breaks the start rule")           \
+    ANSWER(PLANNER_NO_STREAM, 14, "no record has the id")                                 \
+    ANSWER(PLANNER_SHORT_BUFFER, 16, "the buffer has fewer than B elements")              \
     ANSWER(PLANNER_LATE_START, 17, "the lazy start is after 1,000,000,000")
 
 /* The names of the answers. The calls return a uint32_t, which is compared with them. */
@@ -107,8 +108,8 @@ struct planner_queue {
     uint32_t releases[PLANNER_PLACES];
 };
 
-/* Annex 3.1, 3.5: B, F, G and L, the streams and the queue that files them. To be read, and to be copied whole (a host that takes over gets such a
- * copy, Annex 7.38); only the calls write it. */
+/* Annex 3.1, 3.5: B, F, G and L, the streams and the queue that files them. To be read; it is written by the calls, or copied whole (a host that
+ * takes over gets such a copy, Annex 7.38). */
 struct planner {
     uint32_t slots;
     uint32_t frame;
@@ -146,7 +147,9 @@ uint32_t planner_open(struct planner *p, uint32_t slots, uint32_t frame, uint32_
  * last + 240; 12 if the table with it breaks the demand rule; 13 if it breaks the start rule. */
 uint32_t planner_add(struct planner *p, uint32_t id, uint32_t release, uint32_t period, uint32_t deadline);
 
-/* Annex 7.22, 7.23: takes a stream out, and its unserved packet with it. Refuses 5, and 14 where there is no such stream. */
+/* Annex 7.22, 7.23: takes a stream out, and its unserved packet with it. Refuses 5, and 14 where there is no such stream.
+ * planner_remove(&p, 0) changes nothing, as no stream has id 0: it answers 5 if the planner is not sound, else 14; so a planner that was handed over
+ * can be tested. */
 uint32_t planner_remove(struct planner *p, uint32_t id);
 
 /* Annex 7.24 to 7.33: holds the next round: its start, and n ids in the buffer's first n elements, n at most slots; later ones are untouched. Of the
@@ -156,7 +159,8 @@ uint32_t planner_remove(struct planner *p, uint32_t id);
  * is not given. */
 struct planner_held planner_round(struct planner *p, uint16_t *buffer, size_t length);
 
-/* Annex 7.36: how many elements of the buffer a round that answered n has filled, from its front: n, or length if n is above it. Refuses nothing. */
+/* Annex 7.36: how many elements of the buffer a round that answered n has filled, from its front: n, or length if n is above it. Refuses nothing.
+ * After planner_round that is held.n; this call is for an n from elsewhere. */
 size_t planner_filled(const uint16_t *buffer, size_t length, uint32_t n);
 
 #ifdef __cplusplus
@@ -224,8 +228,8 @@ PLANNER_FIELD(planner_held, n, 8);
  *     refuse with 5.
  *   - add, remove and round test the whole planner first and refuse with 5 one that is not sound: a value out of range, a rule broken, a queue that
  *     does not file the streams. That is not every damage. A planner that was damaged in memory and is still sound is accepted and used as it
- *     stands: another gap, another period or number of slots with which the rules hold, anything in a place that is free. A firmware that has to
- *     find every damage keeps a checksum beside the planner (Annex 13.7).
+ *     stands: another gap, another period or number of slots with which both rules are kept, anything in a place that is free. A firmware that
+ *     has to find every damage keeps a checksum beside the planner (Annex 13.7).
  *   - add, remove and round store the planner only where they answer 0, and round writes the buffer only then. A refused one writes nothing in
  *     either, so that a planner which is refused may lie in memory that cannot be written (Annex 7.37). open always writes.
  *
@@ -238,11 +242,12 @@ PLANNER_FIELD(planner_held, n, 8);
  *   - the buffer does not overlap the planner, and nobody else reads or writes either during a call;
  *   - the same version in every host on a bus (Annex 13.8).
  *
- * Versions. A host that compares planner_version() with PLANNER_VERSION finds out a library of another version than the header it was compiled with;
+ * Versions. Hosts compare the first number, 6 of 6.0.0, which planner_version() and PLANNER_VERSION give; the other two count changes that move no
+ * answer. A host that compares planner_version() with PLANNER_VERSION finds out a library of another version than the header it was compiled with;
  * libraries before 6.0.0 have no such function, and a program that calls it does not link with them. Nothing in a planner says which version made it,
  * and no call refuses it for that (Annex 13.8).
- *   - Versions 1 to 5 counted the gap from a round's start: a host with this version and one with an earlier one part at the first round that only
- *     the gap forces, held here at last + 1 + gap, there at last + gap.
+ *   - Versions 1 to 5 counted the gap from a round's start: a host with this version and one with an earlier one part at the latest at the first
+ *     round that only the gap forces, held here at last + 1 + gap, there at last + gap.
  *   - Versions 1 and 2, whose queue had no `releases`, have another layout, 3,608 bytes, where a planner now has 3,864; one that they made must be
  *     opened anew.
  *

@@ -1,4 +1,5 @@
 /* superframe.h: the superframe of a list of periods, their least common multiple: a frame for planner_open (planner.h) that every period divides.
+ * It needs C99 or later, or C++11 or later.
  *
  * A planner takes any frame of 1 to 5,040, and refuses a stream whose period does not divide it. Who knows the periods beforehand asks here:
  *
@@ -13,8 +14,8 @@
  * An answer is 0, SUPERFRAME_OK, or the number of the first refusal that applies, which has a name below; superframe_text says it in words. The call
  * gives answer and value in one number, which superframe_answer and superframe_value take apart; the value of a refusal is 0.
  *
- * Three things that a caller must see to, since the call cannot test them: periods is not null, also where count is 0; it points to count bytes that
- * can be read; nobody writes them during the call.
+ * Three things that a caller must see to, which the call does not test: periods is not null, also where count is 0; it points to count bytes that can
+ * be read; nobody writes them during the call.
  *
  * The rest: what the call does and refuses stands at its prototype, what is proved at the end of this file; examples/c/superframe.c is a program. The
  * specification is chapter 9 of the Annex, docs/ANNEX.md, in the bundle doc/annex.html. */

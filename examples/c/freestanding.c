@@ -36,9 +36,9 @@ static int is_packet(uint32_t start, uint16_t first, uint16_t second) {
     uint8_t packet[11] = {0};
     packet[10] = 0xee;
     uint32_t written = packet_write(start, 2, ids, 2, packet, sizeof packet);
-    struct packet_header read = packet_read(packet, 10);
-    return written == 0 && packet[9] == second && packet[10] == 0xee && read.answer == 0 && read.start == start && read.slots == 2 && read.n == 2
-        && packet_ids_length(packet, 10) == 4 && packet_id(packet, 0) == first && packet_read(packet, 11).answer == 26;
+    struct packet_header header = packet_read(packet, 10);
+    return written == 0 && packet[9] == second && packet[10] == 0xee && header.answer == 0 && header.start == start && header.slots == 2
+        && header.n == 2 && packet_ids_length(packet, 10) == 4 && packet_id(packet, 0) == first && packet_read(packet, 11).answer == 26;
 }
 
 /* How many answers have been looked at, and which was the first that is not the one expected; 0 if none. */
@@ -53,7 +53,9 @@ static void expect(int right) {
 
 static void example(void) {
     const uint8_t periods[] = {5, 7, 15};
+    expect(planner_remove(&kept, 0) == 5);
     expect(planner_open(&kept, 2, 6, 6, 0) == 0);
+    expect(planner_remove(&kept, 0) == 14);
     expect(planner_add(&kept, 1, 1, 3, 2) == 0);
     expect(planner_add(&kept, 2, 1, 6, 6) == 0);
     expect(planner_add(&kept, 3, 2, 6, 5) == 0);

@@ -8,15 +8,15 @@
 static struct planner kept = PLANNER_INIT;
 
 static void print_read(const uint8_t *packet, size_t length) {
-    struct packet_header read = packet_read(packet, length);
-    printf("%u,%u,%u,%u", (unsigned)read.answer, (unsigned)read.start, (unsigned)read.slots, (unsigned)read.n);
+    struct packet_header header = packet_read(packet, length);
+    printf("%u,%u,%u,%u", (unsigned)header.answer, (unsigned)header.start, (unsigned)header.slots, (unsigned)header.n);
     for (size_t k = 0; k < packet_ids_length(packet, length) / 2; k++) {
         printf(",%u", (unsigned)packet_id(packet, k));
     }
     printf("\n");
 }
 
-/* Holds a round and puts it on air; whether that went well, and each head finds itself in the packet just if the round lists it. */
+/* Holds a round and puts it on air; whether that went well, and each head finds its stream in the packet just if the round lists it. */
 static int hold(void) {
     uint16_t ids[PLANNER_MOST_SLOTS] = {0};
     uint8_t packet[PACKET_MOST_BYTES] = {0};
@@ -31,8 +31,8 @@ static int hold(void) {
     printf(" ");
     print_read(packet, length);
     int right = 1;
-    for (uint16_t head = 1; head <= 3; head++) {
-        right = right && packet_has(packet, length, head) == (ids[0] == head || ids[1] == head);
+    for (uint16_t stream = 1; stream <= 3; stream++) {
+        right = right && packet_has(packet, length, stream) == (ids[0] == stream || ids[1] == stream);
     }
     return right;
 }

@@ -1,7 +1,7 @@
 //! A host that answers in lines, as the annex's chapter 11 has them: the planner's part of its worked
 //! example C.1, with one refusal at the end.
 
-use planner::{Planner, Refusal, Setting, Stream};
+use planner::{Planner, Refusal, Setting, Stream, MOST_SLOTS};
 
 fn number(answer: Result<(), Refusal>) -> u32 {
     answer.map_or_else(Refusal::number, |()| 0)
@@ -13,7 +13,7 @@ fn add(planner: &mut Planner, id: u32, release: u32, period: u32, deadline: u32)
 }
 
 fn hold(planner: &mut Planner) -> Result<(), Refusal> {
-    let mut buffer = [0; 64];
+    let mut buffer = [0; MOST_SLOTS];
     let round = planner.round(&mut buffer)?;
     print!("R,0,{},{}", round.start, round.ids.len());
     for id in round.ids {

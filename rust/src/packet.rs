@@ -3,23 +3,30 @@
 //! ```
 //! use planner::packet;
 //!
-//! // a host: the round at 2 with two slots, for the heads 1 and 2
-//! let mut buffer = [0; packet::LONGEST];
+//! // once, where no planner is made
+//! planner::check_version()?;
+//!
+//! // a host: the round at 2 with two slots, for the streams 1 and 2
+//! let mut buffer = [0; packet::MOST_BYTES];
 //! let sent = packet::write(2, 2, &[1, 2], &mut buffer)?;
 //! assert_eq!(sent, [0, 0, 0, 2, 2, 2, 0, 1, 0, 2]);
 //!
-//! // head 2: whether it sends in this round, and in which slot
+//! // the head of stream 2: whether it sends in this round, and in which slot
 //! let packet = packet::read(sent)?;
 //! assert_eq!(packet.start(), 2);
 //! assert_eq!(packet.ids().position(|id| id == 2), Some(1));
 //! # Ok::<(), planner::Refusal>(())
 //! ```
+//!
+//! [`write()`] and [`read()`] do not test the library's version. A host that made a planner has had
+//! it tested; whoever uses packets alone, as a head does, calls
+//! [`check_version`](crate::check_version) once.
 
 use crate::refusal::answered;
-use crate::{raw, Refusal};
+use crate::{raw, Refusal, MOST_SLOTS};
 
-/// Annex 10.2, 10.3: the bytes of the longest schedule packet, of 64 ids.
-pub const LONGEST: usize = length(64);
+/// Annex 10.2, 10.3: the bytes of the longest schedule packet, of [`MOST_SLOTS`] ids.
+pub const MOST_BYTES: usize = length(MOST_SLOTS);
 
 /// Annex 10.2: where the ids begin.
 const IDS_FROM: usize = 6;
@@ -45,7 +52,8 @@ pub fn version() -> u32 {
 ///
 /// 27 if the values are not good (Annex 10.3): start is above 1,000,000,000, slots is not 1 to 64,
 /// there are more ids than slots, an id is not 1 to 32,767 or stands twice; then 28 if the buffer is
-/// shorter than the packet. Refused, it leaves the whole buffer.
+/// shorter than the packet, which one of [`MOST_BYTES`] never is. Refused, it leaves the whole
+/// buffer.
 #[inline]
 pub fn write<'a>(
     start: u32,

@@ -5,17 +5,22 @@ use crate::refusal::answered;
 use crate::{check_version, Refusal};
 use core::fmt;
 
+// for the links of the documentation
+#[cfg(doc)]
+use crate::limits::*;
+
 /// Annex 7.5: what a planner is opened with. Any numbers may stand here; [`Planner::open`] tests
 /// them.
 #[derive(Clone, Copy, Debug, PartialEq, Eq, Hash)]
 pub struct Setting {
-    /// B, the slots of a round, 1 to 64.
+    /// B, the slots of a round, 1 to 64 ([`MOST_SLOTS`]).
     pub slots: u32,
-    /// F, the superframe, 1 to 5,040; every period has to divide it.
+    /// F, the superframe, 1 to 5,040 ([`LONGEST_FRAME`]); every period has to divide it.
     pub frame: u32,
-    /// G, the most units from the end of a round to the next start, 1 to 255.
+    /// G, the most units from the end of a round to the next start, 1 to 255 ([`LONGEST_GAP`]).
     pub gap: u32,
-    /// T, the moment that is taken for the start of the last round, 0 to 1,000,000,000.
+    /// T, the moment that is taken for the start of the last round, 0 to 1,000,000,000
+    /// ([`LAST_START`]).
     pub last: u32,
 }
 
@@ -23,12 +28,15 @@ pub struct Setting {
 /// [`Planner::add`] tests them.
 #[derive(Clone, Copy, Debug, PartialEq, Eq, Hash)]
 pub struct Stream {
-    /// The id, 1 to 32,767.
+    /// The id, 1 to 32,767 ([`LARGEST_ID`]). It has 32 bits, where the ids of a round have 16:
+    /// numbers are passed as 32 bits and compared as they are passed, so that 65,537 is refused and
+    /// is not the id 1 (Annex 7.1).
     pub id: u32,
     /// The moment from which its first unserved packet may ride: of a stream that is added S, that
-    /// of its first packet, now to now + 239.
+    /// of its first packet, now to now + 239 ([`FURTHEST_RELEASE`]).
     pub release: u32,
-    /// P, the length from a release to the next, 1 to 240, a divisor of the frame.
+    /// P, the length from a release to the next, 1 to 240 ([`LONGEST_PERIOD`]), a divisor of the
+    /// frame.
     pub period: u32,
     /// D, the length from a release to the due time, 1 to the period.
     pub deadline: u32,
@@ -79,9 +87,9 @@ impl Planner {
     /// # Errors
     ///
     /// The first that applies: 5 if the planner is not sound; 6 unless the id is 1 to 32,767; 7 if
-    /// a stream has it; 8 with 64 streams; 9 unless the period is 1 to 240 and divides the frame; 10
-    /// unless the deadline is 1 to the period; 11 unless the release is now to now + 239; 12 if the
-    /// table with it breaks the demand rule; 13 if it breaks the start rule.
+    /// a stream has it; 8 with 64 streams ([`PLACES`]); 9 unless the period is 1 to 240 and divides
+    /// the frame; 10 unless the deadline is 1 to the period; 11 unless the release is now to now +
+    /// 239; 12 if the table with it breaks the demand rule; 13 if it breaks the start rule.
     #[inline]
     pub fn add(&mut self, stream: Stream) -> Result<(), Refusal> {
         let Stream { id, release, period, deadline } = stream;
@@ -101,8 +109,8 @@ impl Planner {
     }
 
     /// Annex 7.24 to 7.33: holds the next round, and writes its ids to the front of the buffer,
-    /// which needs as many elements as a round has slots; 64 are always enough. The later ones are
-    /// untouched.
+    /// which needs as many elements as a round has slots; [`MOST_SLOTS`] are always enough. The
+    /// later ones are untouched.
     ///
     /// With no stream the round is held at last + 1 + gap, with no id.
     ///
@@ -168,9 +176,10 @@ impl Planner {
 ///
 /// Any bytes may be handed in. That is safe, since no byte of a planner is padding and every bit
 /// pattern is a value, and since each of add, remove and round tests the whole planner first, as it
-/// does anyway, and refuses one that is not sound with 5. A planner that was damaged and is still
-/// sound is used as it stands: who has to find every damage keeps a checksum beside the bytes
-/// (Annex 13.7).
+/// does anyway, and refuses one that is not sound with 5. So `remove(0)` tests a planner and
+/// changes nothing, as no stream has id 0: it is refused with 5, and of a sound planner with 14
+/// (Annex 7.22). 5 is no checksum: a planner that was damaged and is still sound is used as it
+/// stands, and who has to find every damage keeps a checksum beside the bytes (Annex 13.7).
 impl Planner {
     /// Annex 7.38: the bytes, numbers in the machine's own order, for a host that takes over.
     pub fn as_bytes(&self) -> &[u8; Planner::BYTES] {

@@ -19,8 +19,8 @@ pub enum Refusal {
     BadGap = 3,
     /// Annex 7.6: `last`, T, is above 1,000,000,000.
     BadLast = 4,
-    /// Annex 7.11, 7.22 and 7.25: the planner is not sound. It came from bytes, and these were
-    /// damaged or no planner's.
+    /// Annex 7.11, 7.22 and 7.25: the planner is not sound. It came from bytes or fields
+    /// (`from_bytes`, `from_raw`), and these were damaged or no planner's.
     NotSound = 5,
     /// Annex 7.12: the id is not 1 to 32,767.
     BadId = 6,
@@ -61,29 +61,29 @@ pub enum Refusal {
 
 use Refusal::*;
 
-/// Those with a number of the annex, each with the words of its table 1.
+/// Those with a number of the annex, each with that number and the words of its table 1.
 const TABLE_1: [(Refusal, &str); 21] = [
-    (BadSlots, "B is not 1 to 64"),
-    (BadFrame, "F is not 1 to 5,040"),
-    (BadGap, "G is not 1 to 255"),
-    (BadLast, "T is above 1,000,000,000"),
-    (NotSound, "the planner is not sound"),
-    (BadId, "the id is not 1 to 32,767"),
-    (IdTaken, "a record has the id"),
-    (Full, "the table has 64 records"),
-    (BadPeriod, "P is not 1 to 240, or does not divide F"),
-    (BadDeadline, "D is not 1 to P"),
-    (BadRelease, "S is not now to now + 239"),
-    (BreaksDemand, "the table with it breaks the demand rule"),
-    (BreaksStart, "the table with it breaks the start rule"),
-    (NoStream, "no record has the id"),
-    (ShortBuffer, "the buffer has fewer than B elements"),
-    (LateStart, "the lazy start is after 1,000,000,000"),
-    (BadPeriodOfList, "a period of the list is not 1 to 240"),
-    (LongFrame, "the least common multiple is above 5,040"),
-    (WrongLength, "the length is under 6, or other than 6 + 2×n"),
-    (BadValues, "the values are not good"),
-    (ShortPacketBuffer, "the buffer is shorter than the packet"),
+    (BadSlots, "1: B, the slots, is not 1 to 64"),
+    (BadFrame, "2: F, the superframe, is not 1 to 5,040"),
+    (BadGap, "3: G, the gap, is not 1 to 255"),
+    (BadLast, "4: T, the last start, is above 1,000,000,000"),
+    (NotSound, "5: the planner is not sound: not open, or damaged"),
+    (BadId, "6: the id is not 1 to 32,767"),
+    (IdTaken, "7: a record has the id"),
+    (Full, "8: the table has 64 records"),
+    (BadPeriod, "9: P, the period, is not 1 to 240, or does not divide F"),
+    (BadDeadline, "10: D, the deadline, is not 1 to P"),
+    (BadRelease, "11: S, the first release, is not now to now + 239"),
+    (BreaksDemand, "12: the table with it breaks the demand rule"),
+    (BreaksStart, "13: the table with it breaks the start rule"),
+    (NoStream, "14: no record has the id"),
+    (ShortBuffer, "16: the buffer has fewer than B elements"),
+    (LateStart, "17: the lazy start is after 1,000,000,000"),
+    (BadPeriodOfList, "18: a period of the list is not 1 to 240"),
+    (LongFrame, "19: the least common multiple is above 5,040"),
+    (WrongLength, "26: the length is under 6, or other than 6 + 2×n"),
+    (BadValues, "27: the values are not good"),
+    (ShortPacketBuffer, "28: the buffer is shorter than the packet"),
 ];
 
 impl Refusal {
@@ -99,7 +99,7 @@ impl Refusal {
         known.map(|(refusal, _)| *refusal)
     }
 
-    /// The words of table 1.
+    /// The number and the words of table 1.
     fn words(self) -> &'static str {
         let known = TABLE_1.iter().find(|(refusal, _)| *refusal == self);
         known.map_or("the library is of another version", |(_, words)| words)
@@ -115,7 +115,8 @@ pub(crate) fn answered(answer: u32) -> Result<(), Refusal> {
     }
 }
 
-/// The words of table 1, without the number.
+/// The number and the words of table 1, as in `3: G, the gap, is not 1 to 255`; of
+/// [`Refusal::OtherVersion`], which is not in it, words alone.
 impl fmt::Display for Refusal {
     fn fmt(&self, f: &mut fmt::Formatter<'_>) -> fmt::Result {
         f.pad(self.words())

@@ -1,6 +1,6 @@
 //! Schedule packets, good and bad: Annex 10.1 to 10.8 and C.7.
 
-use planner::packet::{read, write, LONGEST};
+use planner::packet::{read, write, MOST_BYTES};
 use planner::Refusal;
 
 /// Start, B and ids of a packet, or the number of its refusal.
@@ -26,7 +26,7 @@ fn written(start: u32, slots: u32, ids: &[u16], room: usize) -> Result<Vec<u8>, 
 #[test]
 fn the_packet_of_c_7() {
     let bytes = [0x00, 0x00, 0x00, 0x02, 0x02, 0x02, 0x00, 0x01, 0x00, 0x02];
-    for room in [10, 11, LONGEST] {
+    for room in [10, 11, MOST_BYTES] {
         assert_eq!(written(2, 2, &[1, 2], room), Ok(bytes.to_vec()));
     }
     assert_eq!(said(&bytes), Ok((2, 2, vec![1, 2])));
@@ -42,7 +42,7 @@ fn good_packets() {
     assert_eq!(written(0, 1, &[], 6), Ok(empty.to_vec()));
     assert_eq!(said(&empty), Ok((0, 1, vec![])));
     let ids: Vec<u16> = (501..=564).collect();
-    let full = written(16_909_060, 64, &ids, LONGEST).unwrap();
+    let full = written(16_909_060, 64, &ids, MOST_BYTES).unwrap();
     assert_eq!((full.len(), &full[..6]), (134, &[1, 2, 3, 4, 64, 64][..]));
     assert_eq!(said(&full), Ok((16_909_060, 64, ids)));
 }
@@ -98,7 +98,7 @@ fn a_read_is_refused() {
     assert_eq!(said(&long[..515]), Err(26));
 }
 
-// A head looks for its slot.
+// A head looks for the slot of its stream.
 #[test]
 fn ids_are_an_iterator() {
     let bytes = [0, 0, 0, 9, 4, 3, 0, 7, 1, 0, 0, 5];

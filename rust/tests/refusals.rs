@@ -163,10 +163,13 @@ fn numbers_and_words() {
     for number in given {
         let refusal = Refusal::from_number(number).unwrap();
         assert_eq!(refusal.number(), number);
-        assert!(!refusal.to_string().is_empty());
+        assert!(refusal.to_string().starts_with(&format!("{number}: ")));
     }
     let refusal: Box<dyn std::error::Error> = Refusal::BadPeriod.into();
-    assert_eq!(refusal.to_string(), "P is not 1 to 240, or does not divide F");
-    assert_eq!(format!("{:>8}|", Refusal::BadDeadline), "D is not 1 to P|");
+    assert_eq!(refusal.to_string(), "9: P, the period, is not 1 to 240, or does not divide F");
+    assert_eq!(Refusal::BadGap.to_string(), "3: G, the gap, is not 1 to 255");
+    assert_eq!(format!("{:<22}|", Refusal::IdTaken), "7: a record has the id|");
+    assert_eq!(format!("{:<24}|", Refusal::IdTaken), "7: a record has the id  |");
+    assert_eq!(Refusal::OtherVersion.to_string(), "the library is of another version");
     assert_eq!(Refusal::from_number(Refusal::OtherVersion.number()), None);
 }

@@ -1,6 +1,6 @@
 //! Calls and answers as the lines of the annex's chapter 11, so that a test reads as its appendix C.
 
-use planner::{Planner, Refusal, Setting, Stream};
+use planner::{Planner, Refusal, Setting, Stream, MOST_SLOTS};
 
 fn number(answer: Result<(), Refusal>) -> u32 {
     answer.map_or_else(Refusal::number, |()| 0)
@@ -8,7 +8,7 @@ fn number(answer: Result<(), Refusal>) -> u32 {
 
 // Annex 11.17, 11.18: a round's line.
 fn held(planner: &mut Planner) -> String {
-    let mut buffer = [0; 64];
+    let mut buffer = [0; MOST_SLOTS];
     match planner.round(&mut buffer) {
         Err(refusal) => format!("R,{}", refusal.number()),
         Ok(round) => {

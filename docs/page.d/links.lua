@@ -4,9 +4,9 @@
 local text_of = pandoc.utils.stringify
 local ids = {}
 
-local units = {}
-for unit in ("% ‰ s ms µs ns mm km kB MB GB kHz MHz GHz mA mW seconds minutes hours days years times million bytes bits units"):gmatch("%S+") do
-  units[unit] = true
+local units = {} -- those of page.d/units, which the test of the page reads too
+for line in io.lines("page.d/units") do
+  for unit in line:gmatch("%S+") do units[unit] = true end
 end
 
 local function is_blank(inline) return inline and (inline.t == "Space" or inline.t == "SoftBreak") end

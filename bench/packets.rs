@@ -2,7 +2,7 @@
 //   plain    ids met are put into a set of 32,768 bits
 //   simple   each id is looked for among those before it
 // The proved one has a set of 1,024 bits for the remainders of the ids, and looks for an id among those before it only where its remainder was met.
-// So there are packets of ids drawn by chance, and one of 64 ids that have two remainders only, its worst.
+// So there are packets of ids drawn by chance, and one of 64 ids that have two remainders only, its worst; and packets of 32 ids and 32 messages.
 // All run the same packets, in turn in one process, and must agree on each first. A time is of one call, the lower quartile of many short runs.
 // With `CALL IDS HOST CALLS` it makes so many calls alone, for counting instructions.
 use planner::raw::Header;
@@ -70,10 +70,17 @@ fn read_with(good: impl Fn(&[u16]) -> bool, packet: &[u8]) -> Header {
     Header { answer: 0, start, slots, n }
 }
 
+// The ids of streams in front, if behind them are messages alone.
+fn streams_in_front(ids: &[u16]) -> Option<&[u16]> {
+    let (streams, messages) = ids.split_at(ids.iter().position(|id| *id > 32_767).unwrap_or(ids.len()));
+    messages.iter().all(|id| *id > 32_767).then_some(streams)
+}
+
 fn good_by_set(ids: &[u16]) -> bool {
+    let Some(streams) = streams_in_front(ids) else { return false };
     let mut met = [0u64; 512];
-    for &id in ids {
-        if id < 1 || id > 32_767 {
+    for &id in streams {
+        if id < 1 {
             return false;
         }
         let (word, bit) = (&mut met[usize::from(id / 64)], 1 << (id % 64));
@@ -86,7 +93,7 @@ fn good_by_set(ids: &[u16]) -> bool {
 }
 
 fn good_by_search(ids: &[u16]) -> bool {
-    ids.iter().enumerate().all(|(k, id)| (1..=32_767).contains(id) && !ids[..k].contains(id))
+    streams_in_front(ids).is_some_and(|streams| streams.iter().enumerate().all(|(k, id)| *id > 0 && !streams[..k].contains(id)))
 }
 
 type Write = fn(u32, u32, &[u16], &mut [u8]) -> u32;
@@ -98,14 +105,16 @@ const HOSTS: [(&str, Write, Read); 3] = [
     ("simple", |s, b, ids, p| write_with(good_by_search, s, b, ids, p), |p| read_with(good_by_search, p)),
 ];
 
-// Packets of so many ids drawn by chance, none twice, or of 64 that are alike: 1,024 apart, with two remainders. And their bytes.
+// Packets of so many ids drawn by chance, none twice, or of 64 that are alike: 1,024 apart, with two remainders; or of 32 ids drawn and 32 messages.
+// And their bytes.
 fn packets(ids: &str) -> (Vec<Vec<u16>>, Vec<Vec<u8>>) {
     if ids == "alike" {
         let ids: Vec<u16> = (0..64).map(|k| 1 + k % 2 + k / 2 * 1024).collect();
         let bytes = agreed(&ids);
         return (vec![ids; PACKETS], vec![bytes; PACKETS]);
     }
-    let n: usize = ids.parse().expect("a count of ids, or `alike`");
+    let messages = if ids == "messages" { 32 } else { 0 };
+    let n: usize = if ids == "messages" { 32 } else { ids.parse().expect("a count of ids, `alike` or `messages`") };
     let mut x = 1u64;
     let mut draw = || {
         x = x * 16_807 % 2_147_483_647;
@@ -120,6 +129,7 @@ fn packets(ids: &str) -> (Vec<Vec<u16>>, Vec<Vec<u8>>) {
                     ids.push(id);
                 }
             }
+            ids.extend((0..messages).map(|_| 32_768 + draw()));
             ids
         })
         .collect();
@@ -168,7 +178,7 @@ fn row(call: &str, ids: &str) {
     }
     let [proved, plain, simple] = times.map(lower_quartile);
     println!(
-        "{call:<6} {ids:>5} ids   proved {proved:>6.1} ns   plain {plain:>6.1}   simple {simple:>6.1}   proved/plain {:.2}   proved/simple {:.2}",
+        "{call:<6} {ids:>8} ids   proved {proved:>6.1} ns   plain {plain:>6.1}   simple {simple:>6.1}   proved/plain {:.2}   proved/simple {:.2}",
         proved / plain,
         proved / simple
     );
@@ -195,7 +205,7 @@ fn main() {
         return;
     }
     for call in ["write", "read"] {
-        for ids in ["2", "8", "64", "alike"] {
+        for ids in ["2", "8", "64", "alike", "messages"] {
             row(call, ids);
         }
     }

@@ -3,7 +3,8 @@
 //   fast       the Blink paper's Algorithms 1 to 4 on a bucket queue made for speed, with nothing tested;
 //   plain      the same algorithms as they stand there, with nothing tested;
 //   analytic   the sums of the rules, with a division for each stream and each length that can matter.
-// All must answer alike, and `limit` must leave the very bytes that the proved call leaves, before anything is timed.
+// All must answer alike, and `limit` must leave the very bytes that the proved call leaves, before anything is timed. Messages are known to the first
+// two alone.
 // Short batches of each are taken in turn, in one process; a time is per call, the lower quartile of its batches.
 //   TABLE            that table alone
 //   growth           rounds where one of streams, slots, busy length and superframe is varied, streams at two loads
@@ -40,11 +41,21 @@ pub struct Offer {
     pub deadline: u32,
 }
 
-// What all of them can do; a call answers a number that the others must answer too.
+// What all of them can do; a call answers a number that the others must answer too. What is about messages only those can that keep the bytes of a
+// planner; the algorithms of the paper have none.
 pub trait Host: Clone {
     fn round(&mut self) -> u32;
     fn add(&mut self, offer: Offer) -> u32;
     fn remove(&mut self, id: u32) -> u32;
+
+    fn send(&mut self, _number: u32) -> u32 {
+        unimplemented!("no messages")
+    }
+
+    // Has 32 messages wait, whatever waited.
+    fn fill_waiting(&mut self) {
+        unimplemented!("no messages")
+    }
 }
 
 // A round's start and ids in one number.
@@ -55,16 +66,35 @@ pub fn mixed(start: u32, ids: &[u16]) -> u32 {
 #[derive(Clone, Copy)]
 pub enum Call {
     Round,
+    // with 32 messages waiting
+    FullRound,
     Add(Offer),
     Remove(u32),
+    Send(u32),
 }
 
 impl Call {
     pub fn of<H: Host>(self, host: &mut H) -> u32 {
         match self {
-            Call::Round => host.round(),
+            Call::Round | Call::FullRound => host.round(),
             Call::Add(offer) => host.add(offer),
             Call::Remove(id) => host.remove(id),
+            Call::Send(number) => host.send(number),
+        }
+    }
+
+    fn is_round(self) -> bool {
+        matches!(self, Call::Round | Call::FullRound)
+    }
+
+    fn has_messages(self) -> bool {
+        matches!(self, Call::FullRound | Call::Send(_))
+    }
+
+    // What stands before each call of a run and is not part of it.
+    fn prepare<H: Host>(self, host: &mut H) {
+        if matches!(self, Call::FullRound) {
+            host.fill_waiting();
         }
     }
 }
@@ -72,10 +102,8 @@ impl Call {
 // The rounds of a run follow each other; every other call is made of a fresh copy.
 fn run<H: Host>(going: &mut H, call: Call, turns: u32) -> u32 {
     (0..turns).fold(0u32, |sum, _| {
-        let answer = match call {
-            Call::Round => call.of(going),
-            _ => call.of(black_box(&mut going.clone())),
-        };
+        call.prepare(going);
+        let answer = if call.is_round() { call.of(going) } else { call.of(black_box(&mut going.clone())) };
         sum.wrapping_mul(31).wrapping_add(answer)
     })
 }
@@ -117,7 +145,7 @@ impl<H: Host> Timed<H> {
     }
 
     fn batch(&mut self, call: Call) {
-        if !matches!(call, Call::Round) {
+        if !call.is_round() {
             self.copies.push(nanoseconds(self.turns, |n| copies(&self.going, n)));
         }
         self.calls.push(nanoseconds(self.turns, |n| {
@@ -130,6 +158,11 @@ impl<H: Host> Timed<H> {
     }
 }
 
+// Whether there are batches to be taken still.
+fn goes_on(batches: u32, began: Instant) -> bool {
+    batches < 40 || (batches < 1000 && began.elapsed() < Duration::from_millis(400))
+}
+
 // Nanoseconds of proved, limit, fast, plain and analytic.
 fn times(hosts: &Hosts, call: Call) -> [f64; 5] {
     let mut proved = Timed::of(&hosts.proved, call);
@@ -139,7 +172,7 @@ fn times(hosts: &Hosts, call: Call) -> [f64; 5] {
     let mut analytic = Timed::of(&hosts.analytic, call);
     let began = Instant::now();
     let mut batches = 0;
-    while batches < 40 || (batches < 1000 && began.elapsed() < Duration::from_millis(400)) {
+    while goes_on(batches, began) {
         proved.batch(call);
         limit.batch(call);
         fast.batch(call);
@@ -152,20 +185,36 @@ fn times(hosts: &Hosts, call: Call) -> [f64; 5] {
     [proved.time(), limit.time(), fast.time(), plain.time(), analytic.time()]
 }
 
+// Those of proved and limit alone, for what is about messages.
+fn times_with_messages(hosts: &Hosts, call: Call) -> [f64; 2] {
+    let mut proved = Timed::of(&hosts.proved, call);
+    let mut limit = Timed::of(&hosts.limit, call);
+    let began = Instant::now();
+    let mut batches = 0;
+    while goes_on(batches, began) {
+        proved.batch(call);
+        limit.batch(call);
+        batches += 1;
+    }
+    [proved.time(), limit.time()]
+}
+
 // Whether all answer alike, and `limit` leaves the same bytes, call by call.
 fn compare(hosts: &Hosts, call: Call, name: &str) {
     let mut h = hosts.clone();
-    for turn in 0..400 {
+    for turn in 0..if call.is_round() { 400 } else { 1 } {
+        call.prepare(&mut h.proved);
+        call.prepare(&mut h.limit);
         let answer = call.of(&mut h.proved);
         assert_eq!(answer, call.of(&mut h.limit), "limit, {name}");
         assert!(h.proved.as_bytes() == h.limit.0.as_bytes(), "limit's bytes, {name}");
+        if call.has_messages() {
+            continue;
+        }
         assert_eq!(answer, call.of(&mut h.fast), "fast, {name}");
         assert_eq!(answer, call.of(&mut h.plain), "plain, {name}");
         if turn < 8 {
             assert_eq!(answer, call.of(&mut h.analytic), "analytic, {name}");
-        }
-        if !matches!(call, Call::Round) {
-            break;
         }
     }
 }
@@ -173,9 +222,15 @@ fn compare(hosts: &Hosts, call: Call, name: &str) {
 // What a row says of a call: nanoseconds and ratios.
 fn measure(table: &str, busy: u32, case: &Case) {
     compare(&case.hosts, case.call, &format!("{table} {}", case.name));
+    print!("{table:<18} {busy:>5} {:<17}", case.name);
+    if case.call.has_messages() {
+        let [proved, limit] = times_with_messages(&case.hosts, case.call);
+        println!(" {proved:>8.0} {limit:>8.0} {:>8} {:>8} {:>9} {:>8.2} {:>8} {:>8} {:>9}", "-", "-", "-", proved / limit, "-", "-", "-");
+        return;
+    }
     let [proved, limit, fast, plain, analytic] = times(&case.hosts, case.call);
     let ratio = |other: f64| proved / other;
-    print!("{table:<18} {busy:>5} {:<8} {proved:>8.0} {limit:>8.0} {fast:>8.0} {plain:>8.0}", case.name);
+    print!(" {proved:>8.0} {limit:>8.0} {fast:>8.0} {plain:>8.0}");
     // the analytic way has nothing to compute when a stream goes
     match case.call {
         Call::Remove(_) => print!(" {:>9}", "-"),
@@ -214,9 +269,10 @@ fn count<H: Host>(host: &H, name: &str, case: &str, call: Call, turns: u32) {
     let mut going = host.clone();
     let mut sum = 0u32;
     for _ in 0..turns {
-        if !matches!(call, Call::Round) {
+        if !call.is_round() {
             going = black_box(host.clone());
         }
+        call.prepare(&mut going);
         sum = sum.wrapping_add(counted(&mut going, call));
     }
     black_box(sum);
@@ -227,6 +283,9 @@ fn count<H: Host>(host: &H, name: &str, case: &str, call: Call, turns: u32) {
 fn count_all(hosts: &Hosts, case: &str, call: Call, turns: u32) {
     count(&hosts.proved, "proved", case, call, turns);
     count(&hosts.limit, "limit", case, call, turns);
+    if call.has_messages() {
+        return;
+    }
     count(&hosts.fast, "fast", case, call, turns);
     count(&hosts.plain, "plain", case, call, turns);
 }
@@ -260,7 +319,7 @@ fn main() {
     let wanted = tables::all(words.first().map(String::as_str));
     assert!(!wanted.is_empty(), "no such table: the word `tables` lists them");
     println!(
-        "{:<18} {:>5} {:<8} {:>8} {:>8} {:>8} {:>8} {:>9} {:>8} {:>8} {:>8} {:>9}",
+        "{:<18} {:>5} {:<17} {:>8} {:>8} {:>8} {:>8} {:>9} {:>8} {:>8} {:>8} {:>9}",
         "table", "busy", "call", "proved", "limit", "fast", "plain", "analytic", "/limit", "/fast", "/plain", "/analytic"
     );
     for table in &wanted {

@@ -16,7 +16,7 @@
 /* What the next call gets, and what it answered or gave. None is static: the compiler does not see the calls, and has to keep each in memory. */
 struct planner kept;
 uint16_t buffer[PLANNER_MOST_SLOTS];
-uint32_t arg[4];
+uint32_t arg[5];
 size_t length;
 uint8_t periods[255];
 uint8_t packet[PACKET_MOST_BYTES];
@@ -26,9 +26,10 @@ size_t given;
 /* Every call of the interface, with the answer that its figure goes to; a call that gives a length or a version has one figure, under 0. */
 #define CALLS(CALL)                                                                                                  \
     CALL(planner_version, (given = planner_version(), 0u))                                                           \
-    CALL(planner_open, planner_open(&kept, arg[0], arg[1], arg[2], arg[3]))                                          \
+    CALL(planner_open, planner_open(&kept, arg[0], arg[1], arg[2], arg[3], arg[4]))                                  \
     CALL(planner_add, planner_add(&kept, arg[0], arg[1], arg[2], arg[3]))                                            \
     CALL(planner_remove, planner_remove(&kept, arg[0]))                                                              \
+    CALL(planner_send, planner_send(&kept, arg[0]))                                                                  \
     CALL(planner_round, planner_round(&kept, buffer, length).answer)                                                 \
     CALL(planner_filled, (given = planner_filled(buffer, length, arg[0]), 0u))                                       \
     CALL(superframe, superframe_answer(superframe(periods, length)))                                                 \
@@ -70,14 +71,14 @@ static uint32_t measure(int which) {
     return answer;
 }
 
-static uint32_t open_with(uint32_t slots, uint32_t frame, uint32_t gap, uint32_t last) {
-    const uint32_t numbers[] = {slots, frame, gap, last};
+static uint32_t open_with(uint32_t slots, uint32_t frame, uint32_t gap, uint32_t last, uint32_t messages) {
+    const uint32_t numbers[] = {slots, frame, gap, last, messages};
     memcpy(arg, numbers, sizeof arg);
     return measure(of_planner_open);
 }
 
 static uint32_t add(uint32_t id, uint32_t release, uint32_t period, uint32_t deadline) {
-    const uint32_t numbers[] = {id, release, period, deadline};
+    const uint32_t numbers[] = {id, release, period, deadline, 0};
     memcpy(arg, numbers, sizeof arg);
     return measure(of_planner_add);
 }
@@ -85,6 +86,11 @@ static uint32_t add(uint32_t id, uint32_t release, uint32_t period, uint32_t dea
 static uint32_t take_out(uint32_t id) {
     arg[0] = id;
     return measure(of_planner_remove);
+}
+
+static uint32_t send_number(uint32_t number) {
+    arg[0] = number;
+    return measure(of_planner_send);
 }
 
 static uint32_t hold(size_t places) {
@@ -99,9 +105,30 @@ static uint32_t below(uint32_t limit) {
     return (seed >> 16) % limit;
 }
 
-/* Streams of random periods that divide 5,040, calls of each kind and of each refusal between them, then the same on damaged planners. */
-static void table(uint32_t slots, uint32_t streams, uint32_t gap) {
-    open_with(slots, 5040, gap, below(1000));
+/* Calls on damaged planners: with one bit turned, another for each call; then with one slot left for the streams, too few for most tables, so that
+ * 5 comes of the rules, which are tested last. */
+static void damaged_calls(void) {
+    const struct planner good = kept;
+    for (int call = 0; call < 8; call++) {
+        if (call < 4) {
+            ((unsigned char *)&kept)[below(sizeof kept)] ^= (unsigned char)(1u << below(8));
+        } else {
+            kept.slots = 1 + kept.messages;
+        }
+        switch (call % 4) {
+        case 0: hold(64); break;
+        case 1: add(1 + below(32767), kept.last + 1, 240, 240); break;
+        case 2: take_out(kept.table.streams[0].id); break;
+        default: send_number(32768 + below(32768)); break;
+        }
+        kept = good;
+    }
+}
+
+/* Streams of random periods that divide 5,040, calls of each kind and of each refusal between them, then the same on damaged planners. With messages
+ * on, up to 34 are sent before a round, of which 32 can wait. */
+static void table(uint32_t slots, uint32_t streams, uint32_t gap, uint32_t messages) {
+    open_with(slots, 5040, gap, below(1000), messages);
     for (uint32_t tries = 0; tries < 40 * streams && kept.table.count < streams; tries++) {
         uint32_t period = 1 + below(240);
         if (5040 % period == 0) {
@@ -109,6 +136,9 @@ static void table(uint32_t slots, uint32_t streams, uint32_t gap) {
         }
     }
     for (int k = 0; k < 200; k++) {
+        for (uint32_t sends = messages ? below(35) : 1; sends > 0; sends--) {
+            send_number(32767 + below(32768));
+        }
         hold(64);
         /* 6 to 11, 13 where it comes to that, 14, 16 */
         add(0, kept.last + 1, 240, 240);
@@ -125,35 +155,27 @@ static void table(uint32_t slots, uint32_t streams, uint32_t gap) {
             take_out(again.id);
             add(again.id, kept.last + 1 + below(240), again.period, again.deadline);
         }
-        /* one byte damaged */
-        struct planner good = kept;
-        ((unsigned char *)&kept)[below(sizeof kept)] ^= (unsigned char)(1u << below(8));
-        hold(64);
-        kept = good;
-        ((unsigned char *)&kept)[below(sizeof kept)] ^= (unsigned char)(1u << below(8));
-        add(1 + below(32767), kept.last + 1, 240, 240);
-        kept = good;
-        ((unsigned char *)&kept)[below(sizeof kept)] ^= (unsigned char)(1u << below(8));
-        take_out(kept.table.streams[0].id);
-        kept = good;
+        damaged_calls();
     }
 }
 
 static void small_calls(void) {
-    open_with(0, 1, 1, 0);
-    open_with(1, 0, 1, 0);
-    open_with(1, 1, 0, 0);
-    open_with(1, 1, 1, 1000000001);
+    open_with(0, 1, 1, 0, 0);
+    open_with(1, 0, 1, 0, 0);
+    open_with(1, 1, 0, 0, 0);
+    open_with(1, 1, 1, 1000000001, 0);
+    open_with(1, 1, 1, 0, 1);
     hold(64);
     add(1, 1, 1, 1);
     take_out(1);
-    open_with(1, 1, 1, 999999999);
+    send_number(32768);
+    open_with(1, 1, 1, 999999999, 0);
     hold(64);
     add(1, 1000000000, 1, 1);
     hold(64);
     hold(64);
     /* 13, a table on the edge of the start rule */
-    open_with(1, 10, 20, 0);
+    open_with(1, 10, 20, 0, 0);
     add(1, 1, 10, 10);
     add(2, 1, 10, 10);
     hold(64);
@@ -183,14 +205,15 @@ static void superframes(void) {
     }
 }
 
-/* Packets of every n, written and read: good, with an id twice, too late, with one byte too few, and cut short. */
+/* Packets of every n, written and read: good, with an id twice, too late, with one byte too few, and cut short; then with messages behind half of
+ * the ids. */
 static void packets(void) {
     for (uint32_t n = 0; n <= 64; n++) {
-        for (int kind = 0; kind < 4; kind++) {
+        for (int kind = 0; kind < 5; kind++) {
             for (uint32_t k = 0; k < n; k++) {
-                buffer[k] = (uint16_t)(501 + k * 509);
+                buffer[k] = (uint16_t)(501 + k * 509 + (kind == 4 && 2 * k >= n ? 32768 : 0));
             }
-            const uint32_t numbers[] = {kind == 2 ? 1000000001 : 16909060, 64, n, 0};
+            const uint32_t numbers[] = {kind == 2 ? 1000000001 : 16909060, 64, n, 0, 0};
             memcpy(arg, numbers, sizeof arg);
             length = kind == 3 ? 5 + 2 * n : sizeof packet;
             if (kind == 1 && n > 1) {
@@ -219,12 +242,14 @@ int main(void) {
     packets();
     const uint32_t gaps[] = {200, 20};
     for (int g = 0; g < 2; g++) {
-        table(1, 8, gaps[g]);
-        table(3, 8, gaps[g]);
-        table(2, 64, gaps[g]);
-        table(5, 64, gaps[g]);
-        table(10, 64, gaps[g]);
-        table(64, 64, gaps[g]);
+        for (uint32_t messages = 0; messages <= 1; messages++) {
+            table(1 + messages, 8, gaps[g], messages);
+            table(3 + messages, 8, gaps[g], messages);
+            table(2 + messages, 64, gaps[g], messages);
+            table(5 + messages, 64, gaps[g], messages);
+            table(10 + messages, 64, gaps[g], messages);
+            table(64, 64, gaps[g], messages);
+        }
     }
     for (size_t k = 0; k < sizeof figures / sizeof figures[0]; k++) {
         size_t most = 0;

@@ -31,16 +31,17 @@
 #include <stdint.h>
 
 /* Annex 10.10: the version that this header is of; packet_version() gives the library's. A program refuses a library of another one. */
-#define PACKET_VERSION 6
+#define PACKET_VERSION 7
 
 /* Annex 10.2, the layout, 6 + 2 * n bytes: bytes 0 to 3 the round's start, the most significant byte first; byte 4 the slots of a round (B); byte 5
- * n; then n ids of two bytes each, the most significant first, in the order of the round's slots.
- * Annex 10.3: a packet is good if its start is at most 1,000,000,000, slots is 1 to 64, n is at most slots, and the ids are 1 to 32,767 with none
- * twice. */
+ * n; then n ids of two bytes each, the most significant first, in the order of the round's slots: those of streams and, behind them, the numbers of
+ * messages (planner_send of planner.h).
+ * Annex 10.3: a packet is good if its start is at most 1,000,000,000, slots is 1 to 64, n is at most slots, and the ids are first those of streams,
+ * 1 to 32,767 with none twice, then messages, 32,768 to 65,535, of which the same may stand more than once; there may be none of either. */
 #define PACKET_BYTES(n) (6 + 2 * PACKET_CAST(size_t, n)) /* the bytes of a packet with n ids */
 #define PACKET_MOST_BYTES 134                            /* those of the longest good packet */
 #define PACKET_MOST_SLOTS 64
-#define PACKET_LARGEST_ID 32767
+#define PACKET_LARGEST_ID 32767                          /* of a stream; a number above it is a message */
 #define PACKET_LAST_START 1000000000
 
 /* A cast in the language's own manner: C++ may warn of C's (-Wold-style-cast). */
@@ -103,12 +104,13 @@ size_t packet_ids_length(const uint8_t *packet, size_t length);
 }
 #endif
 
-/* The id in slot k, from 0, of a packet that was read with answer 0; k is below its n. */
+/* The id or message in slot k, from 0, of a packet that was read with answer 0; k is below its n. */
 static inline uint16_t packet_id(const uint8_t *packet, size_t k) {
     return PACKET_CAST(uint16_t, packet[6 + 2 * k] << 8 | packet[7 + 2 * k]);
 }
 
-/* Whether a packet of `length` bytes is good and lists the id of a stream: whether that stream's head sends in this round. */
+/* Whether a packet of `length` bytes is good and lists the id of a stream: whether that stream's head sends in this round; or lists
+ * that message. */
 static inline int packet_has(const uint8_t *packet, size_t length, uint16_t id) {
     size_t ids = packet_ids_length(packet, length) / 2;
     for (size_t k = 0; k < ids; k++) {
@@ -152,9 +154,10 @@ PACKET_FIELD(packet_header, n, 12);
  * What C has to keep, since nothing checks a call: the three things at the top (Annex 7.39), and a 64-bit x86 machine: the library is built for it,
  * uses its SSE2 registers, and takes size_t to be 8 bytes.
  *
- * Versions. The layout of a packet is the same in every version that has packets, 4 to 6; earlier ones have none. A program that compares
- * packet_version() with PACKET_VERSION finds out a library of another version than the header it was compiled with; libraries before 6.0.0 have no
- * such function, and a program that calls it does not link with them.
+ * Versions. The layout of a packet is the same in every version that has packets, 4 to 7; earlier ones have none. Versions 4 to 6 know no messages: a
+ * head with one of these answers 27 to a packet that has one, and reads every other. A program that compares packet_version() with PACKET_VERSION
+ * finds out a library of another version than the header it was compiled with; libraries before 6.0.0 have no such function, and a program that calls
+ * it does not link with them.
  *
  * What these calls need from outside: memset as C has it, and nothing else (`nm -u libplanner.a`, packets.o). No heap; no pointer is kept; a call
  * writes nothing but the packet that it is lent and its stack, and returns.

@@ -7,7 +7,7 @@
  *     uint32_t packed = superframe(periods, sizeof periods);
  *     if (superframe_answer(packed) != SUPERFRAME_OK) { puts(superframe_text(superframe_answer(packed))); return 1; }
  *     uint32_t frame = superframe_value(packed);                       // 105
- *     uint32_t answer = planner_open(&p, 2, frame, 20, 0);
+ *     uint32_t answer = planner_open(&p, 2, frame, 20, 0, 0);
  *
  * The order of calls: it is one call, which knows of no other, and no other asks for its value.
  *

@@ -25,7 +25,11 @@ pub fn answers(text: &str) -> String {
     answers
 }
 
+/// The answer to a line that calls no planner; `S,` begins a send.
 fn answer(line: &str) -> Option<String> {
+    if line.starts_with("S,") {
+        return None;
+    }
     let bytes = bytes(line.get(1..)?);
     match line.chars().next()? {
         'P' => Some(read(&bytes)),

@@ -1,9 +1,12 @@
 //! Compares the proved packet library with the oracle's packets on
-//! random reads and writes and on the rounds of random scripts:
+//! random reads and writes and on the rounds of random scripts and of random
+//! lists of calls, which have messages:
 //! exchange CASES [SEED]
 //! A program of its own, so that the oracle does without the library.
 
 // Of these the oracle uses what is not used here.
+#[allow(dead_code)]
+mod calls;
 #[allow(dead_code)]
 mod count;
 #[allow(dead_code)]
@@ -14,16 +17,20 @@ mod packet;
 mod planner;
 #[allow(dead_code)]
 mod program;
+#[allow(dead_code)]
+mod random_calls;
 
 use generate::Random;
 use packet::{Read, IDS_FROM};
 use program::Program;
+use random_calls::List;
 use std::process::ExitCode;
 
 /// From so many cases on, every kind must have occurred.
 const ENOUGH: u64 = 10_000;
 
-/// Scripts whose rounds are written, and the lines of each.
+/// Scripts whose rounds are written, as many lists of calls, and the lines of
+/// each.
 const SCRIPTS: u64 = 48;
 const LINES: usize = 1_000;
 
@@ -359,39 +366,58 @@ fn writes(random: &mut Random, cases: u64) -> Result<(Table, Table), String> {
     Ok((values_table, buffers_table))
 }
 
-/// The packets of held rounds: all, those with no id, with B ids, and with
-/// more than one.
+/// The packets of held rounds: all, those with no number, with B numbers, with
+/// more than one, and with a message.
 #[derive(Default)]
 struct Rounds {
     packets: u64,
     none: u64,
     full: u64,
     several: u64,
+    messages: u64,
 }
 
 impl Rounds {
     fn text(&self) -> String {
         format!(
-            "{:>9} packets of the rounds of {SCRIPTS} scripts\n{:>9} of these with no id\n\
-             {:>9} of these with B ids\n{:>9} of these with more than one id\n",
-            self.packets, self.none, self.full, self.several
+            "{:>9} packets of the rounds of {SCRIPTS} scripts and {SCRIPTS} lists of calls\n\
+             {:>9} of these with no number\n{:>9} of these with B numbers\n\
+             {:>9} of these with more than one number\n{:>9} of these with a message\n",
+            self.packets, self.none, self.full, self.several, self.messages
         )
+    }
+
+    /// Writes a held round and reads it. A round is always good, so the answer
+    /// must be 0.
+    fn exchange(&mut self, random: &mut Random, values: &Values) -> Result<(), String> {
+        let length = values.need() + random.pick(&[0, 0, 1, 50]);
+        let answer = write_case(random, values, length)?;
+        if answer != 0 {
+            return Err(format!("both answered {answer} to the round {values:?}"));
+        }
+        read_case(random, &values.bytes())?;
+        self.packets += 1;
+        self.none += u64::from(values.ids.is_empty());
+        self.full += u64::from(values.ids.len() as u64 == values.slots);
+        self.several += u64::from(values.ids.len() > 1);
+        self.messages += u64::from(values.ids.iter().any(|number| *number > 32_767));
+        Ok(())
     }
 
     fn missing(&self) -> Vec<String> {
         let counts = [
             (self.packets, "a round"),
-            (self.none, "a round with no id"),
-            (self.full, "a round with B ids"),
-            (self.several, "a round with more than one id"),
+            (self.none, "a round with no number"),
+            (self.full, "a round with B numbers"),
+            (self.several, "a round with more than one number"),
+            (self.messages, "a round with a message"),
         ];
         let missing = counts.iter().filter(|(count, _)| *count == 0);
         missing.map(|(_, name)| String::from(*name)).collect()
     }
 }
 
-/// Every held round of random scripts, written and read. A round is always
-/// good, so the answer must be 0.
+/// Every held round of random scripts and of random lists of calls.
 fn rounds(random: &mut Random) -> Result<Rounds, String> {
     let mut rounds = Rounds::default();
     for _ in 0..SCRIPTS {
@@ -399,22 +425,30 @@ fn rounds(random: &mut Random) -> Result<Rounds, String> {
         let mut program = Program::new();
         for line in program::lines(&script) {
             let printed = program.line(line);
-            let Some(values) = round_values(program.planner.slots, &printed) else {
-                continue;
-            };
-            let length = values.need() + random.pick(&[0, 0, 1, 50]);
-            let answer = write_case(random, &values, length)?;
-            if answer != 0 {
-                return Err(format!("both answered {answer} to the round {printed}"));
+            if let Some(values) = round_values(program.planner.slots, &printed) {
+                rounds.exchange(random, &values)?;
             }
-            read_case(random, &values.bytes())?;
-            rounds.packets += 1;
-            rounds.none += u64::from(values.ids.is_empty());
-            rounds.full += u64::from(values.ids.len() as u64 == values.slots);
-            rounds.several += u64::from(values.ids.len() > 1);
+        }
+    }
+    for _ in 0..SCRIPTS {
+        let mut list = List::new(random.between(1, 2_147_483_646));
+        for _ in 0..LINES {
+            if let Some(values) = called_values(&mut list) {
+                rounds.exchange(random, &values)?;
+            }
         }
     }
     Ok(rounds)
+}
+
+/// The values of the next call of a list, if it is a round that is held.
+fn called_values(list: &mut List) -> Option<Values> {
+    let round = list.step().round.filter(|round| round.answer == 0)?;
+    Some(Values {
+        start: round.start,
+        slots: list.calls.planner.slots,
+        ids: round.buffer[..round.n].to_vec(),
+    })
 }
 
 /// The values of a held round, printed as "R,0,start,n" and the ids.
@@ -430,7 +464,7 @@ fn round_values(slots: u64, printed: &str) -> Option<Values> {
 
 // The kinds of reads.
 
-const READS: [Kind<fn(&mut Random) -> Vec<u8>>; 25] = [
+const READS: [Kind<fn(&mut Random) -> Vec<u8>>; 28] = [
     Kind {
         name: "0 to 140 random bytes",
         must: &[26],
@@ -513,10 +547,21 @@ const READS: [Kind<fn(&mut Random) -> Vec<u8>>; 25] = [
     }),
     kind("an id on its bound", &[0], |random| id_on(random).bytes()),
     kind("an id 0", &[27], |random| with_id(random, &[0]).bytes()),
-    kind("an id past 32,767", &[27], |random| id_past(random).bytes()),
+    kind("a message in some place", &[0, 27], |random| {
+        message_in(random).bytes()
+    }),
+    kind("messages behind the ids", &[0], |random| {
+        messages_behind(random).bytes()
+    }),
+    kind("an id behind a message", &[27], |random| {
+        id_behind(random).bytes()
+    }),
+    kind("0 behind a message", &[27], |random| {
+        zero_behind(random).bytes()
+    }),
     kind("B and n exchanged", &[0, 26, 27], exchanged),
     kind("a wrong value and a wrong length", &[26], |random| {
-        let makers = [id_twice, start_past, id_past];
+        let makers = [id_twice, start_past, id_behind];
         let mut packet = random.pick(&makers)(random).bytes();
         let length = packet.len();
         let longer = length + random.between(1, 3) as usize;
@@ -574,7 +619,7 @@ fn exchanged(random: &mut Random) -> Vec<u8> {
 
 // The kinds of writes.
 
-const WRITES: [Kind<fn(&mut Random) -> Values>; 13] = [
+const WRITES: [Kind<fn(&mut Random) -> Values>; 16] = [
     kind("good values", &[0, 28], |random| good(random, 0)),
     kind("start on its bound", &[0, 28], start_on),
     kind("B on its bound", &[0, 28], slots_on),
@@ -592,7 +637,10 @@ const WRITES: [Kind<fn(&mut Random) -> Values>; 13] = [
         values
     }),
     kind("an id 0", &[27], |random| with_id(random, &[0])),
-    kind("an id past 32,767", &[27], id_past),
+    kind("a message in some place", &[0, 27, 28], message_in),
+    kind("messages behind the ids", &[0, 28], messages_behind),
+    kind("an id behind a message", &[27], id_behind),
+    kind("0 behind a message", &[27], zero_behind),
     kind("an id twice", &[27], id_twice),
 ];
 
@@ -660,6 +708,16 @@ fn distinct_ids(random: &mut Random, n: usize) -> Vec<u16> {
     ids
 }
 
+/// So many numbers, at least one: ids, and at times messages behind them.
+fn ids_and_messages(random: &mut Random, n: usize) -> Vec<u16> {
+    let mut numbers = distinct_ids(random, n);
+    if random.chance(30) {
+        let from = random.below(n as u64) as usize;
+        make_messages(random, &mut numbers, from);
+    }
+    numbers
+}
+
 /// A place of a list: the first, the last or any.
 fn place(random: &mut Random, length: usize) -> usize {
     let any = random.below(length as u64) as usize;
@@ -691,15 +749,15 @@ fn slots_on(random: &mut Random) -> Values {
 fn n_is_b(random: &mut Random) -> Values {
     let good = good(random, 0);
     let slots = random.pick(&[1, good.slots, good.slots, 64]);
-    let ids = distinct_ids(random, slots as usize);
+    let ids = ids_and_messages(random, slots as usize);
     Values { slots, ids, ..good }
 }
 
-/// So many ids more than B.
+/// So many numbers more than B.
 fn n_above(random: &mut Random, more: usize) -> Values {
     let good = good(random, 0);
     let slots = random.pick(&[1, good.slots, good.slots, 64]);
-    let ids = distinct_ids(random, slots as usize + more);
+    let ids = ids_and_messages(random, slots as usize + more);
     Values { slots, ids, ..good }
 }
 
@@ -723,9 +781,51 @@ fn with_id(random: &mut Random, bad: &[u16]) -> Values {
     values
 }
 
-fn id_past(random: &mut Random) -> Values {
+/// A message in some place: good where it is the last.
+fn message_in(random: &mut Random) -> Values {
     let any = random.between(32_768, 65_535) as u16;
     with_id(random, &[32_768, 32_768, any, 65_535])
+}
+
+/// Makes the numbers from a place on messages: on a bound, out of few, so that
+/// some are equal, with an id's low 15 bits, or any.
+fn make_messages(random: &mut Random, numbers: &mut [u16], from: usize) {
+    let low = numbers[0] % 32_768;
+    for number in &mut numbers[from..] {
+        let any = random.between(32_768, 65_535) as u16;
+        *number = random.pick(&[32_768, 65_535, 40_000, 32_768 + low, any, any]);
+    }
+}
+
+/// Good values with a message in the last place, or from some place on.
+fn messages_behind(random: &mut Random) -> Values {
+    let mut values = good(random, 1);
+    let from = place(random, values.ids.len());
+    make_messages(random, &mut values.ids, from);
+    values
+}
+
+/// Good values but for one id with a message before it; no id is twice.
+fn id_behind(random: &mut Random) -> Values {
+    let mut values = good(random, 2);
+    let last = values.ids.len() as u64 - 1;
+    let from = random.below(last);
+    let behind = random.between(from + 1, last);
+    let behind = random.pick(&[from + 1, behind, last]) as usize;
+    let id = values.ids[behind];
+    make_messages(random, &mut values.ids, from as usize);
+    values.ids[behind] = id;
+    values
+}
+
+/// The same with 0 in place of the id.
+fn zero_behind(random: &mut Random) -> Values {
+    let mut values = id_behind(random);
+    let message = values.ids.iter().position(|number| *number > 32_767);
+    let message = message.expect("one was put there");
+    let behind = values.ids[message..].iter_mut().find(|id| **id < 32_768);
+    *behind.expect("one was put there") = 0;
+    values
 }
 
 /// Good values but for one id in two places: the first and the last, two

@@ -10,6 +10,7 @@ mod generate;
 mod packet;
 mod planner;
 mod program;
+mod random_calls;
 mod rounds;
 mod selftest;
 
@@ -29,6 +30,9 @@ oracle unpack               reads a packet on standard input and prints
                             ANSWER,START,B,N and ,ID for each id
 oracle cases                answers the lines of vectors/library on standard
                             input, those of crates/packet_cases among them
+oracle calls SEED N         prints a list of N random calls on one planner with
+                            their answers, as crates/random_calls does; SEED
+                            is 1 to 2,147,483,646
 oracle selftest             checks the worked cases and itself
 ";
 
@@ -45,6 +49,12 @@ fn main() -> ExitCode {
         ["rounds"] => print(rounds::Rounds::of(&input()).text().as_bytes()),
         ["generate", seed, lines] => match (seed.parse(), lines.parse()) {
             (Ok(seed), Ok(lines)) => print(&generate::script(seed, lines)),
+            _ => usage(),
+        },
+        ["calls", seed, wanted] => match (seed.parse(), wanted.parse()) {
+            (Ok(seed), Ok(wanted)) if random_calls::SEEDS.contains(&seed) => {
+                print(random_calls::text(seed, wanted).as_bytes())
+            }
             _ => usage(),
         },
         ["pack", start, slots, ids @ ..] => pack(start, slots, ids),

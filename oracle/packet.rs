@@ -98,19 +98,27 @@ fn refused(answer: u32) -> Read {
 }
 
 /// Annex 10.3: the start is at most 1,000,000,000, B is 1 to 64, n is at most
-/// B, and the ids are 1 to 32,767, none twice.
-fn good(start: u64, slots: u64, ids: &[u64]) -> bool {
+/// B, and the numbers are first stream ids, 1 to 32,767, none twice, and from
+/// the first that is above these on messages, 32,768 to 65,535, equal ones
+/// too.
+fn good(start: u64, slots: u64, numbers: &[u64]) -> bool {
+    let front = numbers.iter().position(|number| *number > 32_767);
+    let (ids, messages) = numbers.split_at(front.unwrap_or(numbers.len()));
     let count = |id: u64| ids.iter().filter(|other| **other == id).count();
     start <= 1_000_000_000
         && (1..=64).contains(&slots)
-        && ids.len() as u64 <= slots
+        && numbers.len() as u64 <= slots
         && ids
             .iter()
             .all(|id| (1..=32_767).contains(id) && count(*id) == 1)
+        && messages
+            .iter()
+            .all(|message| (32_768..=65_535).contains(message))
 }
 
 /// Annex 10.2: bytes 0 to 3 the start, the most significant first; byte 4 B;
-/// byte 5 n; then n ids of two bytes each, the most significant first.
+/// byte 5 n; then n numbers, ids and messages, of two bytes each, the most
+/// significant first.
 fn layout(start: u64, slots: u64, ids: &[u64]) -> Vec<u8> {
     let mut values = vec![
         start / 16_777_216,

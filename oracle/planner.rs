@@ -8,6 +8,9 @@ pub const LAST_START: u64 = 1_000_000_000;
 /// Annex 3.6: the most streams that a planner holds.
 const MOST_STREAMS: usize = 64;
 
+/// Annex 3.15: the most messages that wait.
+const MOST_WAITING: usize = 32;
+
 /// Lengths looked at beyond those that are enough (see `demand_rule` and
 /// `times`); none of the rules needs it.
 const MARGIN: u64 = 480;
@@ -34,34 +37,78 @@ impl Stream {
     }
 }
 
-/// Annex 3.1: B, F, G, the last round's start L, and the streams, each with
-/// its first unserved packet.
+/// Annex 3.14: the numbers that are messages.
+fn is_message(number: u64) -> bool {
+    (32_768..=65_535).contains(&number)
+}
+
+/// Annex 3.15: the waiting messages, in the order in which they were sent:
+/// they stand in the first of 32 places, as many as the count says.
+#[derive(Clone, Debug, PartialEq, Eq)]
+pub struct Waiting {
+    pub count: u64,
+    pub numbers: [u64; MOST_WAITING],
+}
+
+impl Waiting {
+    /// Those of a list, which has at most 32.
+    fn of(list: &[u64]) -> Waiting {
+        let mut numbers = [0; MOST_WAITING];
+        numbers[..list.len()].copy_from_slice(list);
+        Waiting {
+            count: list.len() as u64,
+            numbers,
+        }
+    }
+
+    /// The list of them; of a count above 32 all places.
+    fn list(&self) -> &[u64] {
+        &self.numbers[..MOST_WAITING.min(self.count as usize)]
+    }
+
+    /// Annex 3.17: at most so many by the count itself, each a message.
+    fn in_range(&self, most: usize) -> bool {
+        self.count <= most as u64 && self.list().iter().all(|number| is_message(*number))
+    }
+}
+
+/// Annex 3.1: B, F, G, whether messages are on (1) or off (0), the last
+/// round's start L, the waiting messages, and the streams, each with its first
+/// unserved packet.
 #[derive(Clone, Debug, PartialEq, Eq)]
 pub struct Planner {
     pub slots: u64,
     pub superframe: u64,
     pub gap: u64,
+    pub messages: u64,
     pub last: u64,
+    pub waiting: Waiting,
     pub streams: Vec<Stream>,
 }
 
 impl Planner {
-    /// Annex 3.12: the closed planner, every number 0 and no stream.
+    /// Annex 3.12: the closed planner, every number 0, messages off, no stream
+    /// and nothing waiting.
     pub fn closed() -> Planner {
         Planner {
             slots: 0,
             superframe: 0,
             gap: 0,
+            messages: 0,
             last: 0,
+            waiting: Waiting::of(&[]),
             streams: Vec::new(),
         }
     }
 
-    /// Annex 7.6 to 7.8: 1 for B, 2 for F, 3 for G out of range, 4 for T above
-    /// 1,000,000,000. The new planner has L = T; refused, it is the closed
-    /// one.
-    pub fn open(slots: u64, superframe: u64, gap: u64, time: u64) -> (Planner, u32) {
-        let answer = if !(1..=64).contains(&slots) {
+    /// Annex 7.5 to 7.8: 1 for B, 2 for F, 3 for G out of range, 4 for T above
+    /// 1,000,000,000. Messages are off with 0 and on with any other number,
+    /// and 1 is also for B = 1 with them on, which leaves no slot to streams.
+    /// The new planner has L = T and nothing waiting; refused, it is the
+    /// closed one.
+    pub fn open(slots: u64, superframe: u64, gap: u64, time: u64, on: u64) -> (Planner, u32) {
+        let messages = u64::from(on != 0);
+        let answer = if !(1..=64).contains(&slots) || (slots == 1 && on != 0) {
             1
         } else if !(1..=5_040).contains(&superframe) {
             2
@@ -79,7 +126,9 @@ impl Planner {
             slots,
             superframe,
             gap,
+            messages,
             last: time,
+            waiting: Waiting::of(&[]),
             streams: Vec::new(),
         };
         (planner, 0)
@@ -94,6 +143,12 @@ impl Planner {
     /// Annex 3.4: now, the end of the last round.
     pub fn now(&self) -> u64 {
         self.last + 1
+    }
+
+    /// Annex 3.16: the slots for streams, which every rule and every plan
+    /// counts: B, less the one that is kept with messages on.
+    pub fn stream_slots(&self) -> u64 {
+        self.slots - self.messages
     }
 
     pub fn holds(&self, id: u64) -> bool {
@@ -176,10 +231,30 @@ impl Planner {
         0
     }
 
+    /// Annex 7.41 to 7.45: 5; 29 for a number that is no message, and for any
+    /// with messages off; 30 with 32 waiting. The message waits behind the
+    /// others, equal ones too.
+    pub fn send(&mut self, number: u64) -> u32 {
+        if self.is_closed() {
+            return 5;
+        }
+        if !is_message(number) || self.messages == 0 {
+            return 29;
+        }
+        let waiting = self.waiting.list();
+        if waiting.len() >= MOST_WAITING {
+            return 30;
+        }
+        self.waiting = Waiting::of(&[waiting, &[number]].concat());
+        0
+    }
+
     /// Annex 7.24 to 7.32: 5; 16 for a buffer shorter than B; 17 if the start
     /// is after 1,000,000,000. It gives the start and the count n; the ids
-    /// stand in the first n places, and later places are untouched. With no
-    /// stream the cap is all that the lazy rule is left with.
+    /// and behind them messages stand in the first n places, and later places
+    /// are untouched. With no stream the cap is all that the lazy rule is left
+    /// with. Annex 7.46, 7.47: of the waiting messages the first that fit in
+    /// the slots of B which the ids leave free are listed, and wait no longer.
     pub fn round(&mut self, buffer: &mut [u16]) -> Result<(u64, usize), u32> {
         if self.is_closed() {
             return Err(5);
@@ -192,17 +267,23 @@ impl Planner {
             return Err(17);
         }
         let ids = self.slot_ids(start);
-        for (place, id) in buffer.iter_mut().zip(&ids) {
-            *place = u16::try_from(*id).expect("ids are 1 to 32,767");
+        let free = (self.slots as usize).saturating_sub(ids.len());
+        let waiting = self.waiting.list();
+        let (leaving, staying) = waiting.split_at(free.min(waiting.len()));
+        let listed = [&ids, leaving].concat();
+        let staying = Waiting::of(staying);
+        for (place, number) in buffer.iter_mut().zip(&listed) {
+            *place = u16::try_from(*number).expect("ids and messages are 1 to 65,535");
         }
         self.serve(&ids);
+        self.waiting = staying;
         self.last = start;
-        Ok((start, ids.len()))
+        Ok((start, listed.len()))
     }
 
-    /// Annex 5.2, 5.3: of the packets that may ride the first B by due time,
-    /// in that order; those due at the same time go by earlier release, then
-    /// by smaller id.
+    /// Annex 5.2, 5.3: of the packets that may ride the first by due time, as
+    /// many as there are slots for streams, in that order; those due at the
+    /// same time go by earlier release, then by smaller id.
     pub fn slot_ids(&self, start: u64) -> Vec<u64> {
         self.first_riders(start, |stream| (stream.due(), stream.release, stream.id))
     }
@@ -213,7 +294,7 @@ impl Planner {
         self.first_riders(start, |stream| (stream.due(), stream.id))
     }
 
-    /// The ids of the first B of the packets that may ride, by a key. As D is
+    /// The ids of the first of the packets that may ride, by a key. As D is
     /// at most P, a stream's later packet is released when the one before it
     /// is due or after, so at most the first unserved packet of each stream
     /// may ride.
@@ -224,7 +305,7 @@ impl Planner {
             .filter(|stream| stream.may_ride(start))
             .collect();
         riders.sort_by_key(|stream| key(stream));
-        riders.truncate(self.slots as usize);
+        riders.truncate(self.stream_slots() as usize);
         riders.iter().map(|stream| stream.id).collect()
     }
 
@@ -247,7 +328,7 @@ impl Planner {
     }
 
     /// Annex 4.2: the demand rule: for every length t ≥ 1 the demand is at
-    /// most B×t.
+    /// most B×t. Here and in all that follows B is the slots for streams.
     ///
     /// Why t = 1 to F is far enough: a stream with D > t adds nothing, and as
     /// D ≤ P its floor is then -1, so the formula may be read for all streams
@@ -255,7 +336,7 @@ impl Planner {
     /// plus sum F/P, and the sum at F is sum F/P itself. If the rule holds at
     /// F, then sum F/P ≤ B×F, and what holds at t holds at t + F.
     pub fn demand_rule(&self) -> bool {
-        (1..=self.superframe + MARGIN).all(|t| self.demand(t) <= self.slots * t)
+        (1..=self.superframe + MARGIN).all(|t| self.demand(t) <= self.stream_slots() * t)
     }
 
     /// Annex 4.3: the future demand h(t), the same sum with t minus the due
@@ -284,7 +365,7 @@ impl Planner {
     /// Annex 4.4: the start rule: h(t) ≤ B×(t - now) for every t > now.
     pub fn start_rule(&self) -> bool {
         self.times()
-            .all(|t| self.future_demand(t) <= self.slots * (t - self.now()))
+            .all(|t| self.future_demand(t) <= self.stream_slots() * (t - self.now()))
     }
 
     /// Annex 4.5: the cap on the next start, G after the end of the last
@@ -302,15 +383,15 @@ impl Planner {
         for t in self.times() {
             let h = self.future_demand(t);
             if h > 0 {
-                least = least.min(t - h.div_ceil(self.slots));
+                least = least.min(t - h.div_ceil(self.stream_slots()));
             }
         }
         assert!(least >= self.now(), "a start before now");
         least
     }
 
-    /// Annex 3.5 to 3.10: (a) all values are in range, each P divides F and
-    /// ids differ; (b) each unserved packet is due after now and released at
+    /// Annex 3.5 to 3.10, 3.17: (a) all values are in range, those of messages
+    /// among them, each P divides F and ids differ; (b) each unserved packet is due after now and released at
     /// now + 239 or before; (c) the demand rule and (d) the start rule hold.
     /// There is no queue here, so (e) is void. Used by the self-test, and by
     /// the calls on a planner whose memory was set.
@@ -331,6 +412,9 @@ impl Planner {
             && (1..=5_040).contains(&self.superframe)
             && (1..=255).contains(&self.gap)
             && self.last <= LAST_START
+            && self.messages <= 1
+            && self.slots > self.messages
+            && self.waiting.in_range(MOST_WAITING * self.messages as usize)
             && self.streams.len() <= MOST_STREAMS
             && self.streams.iter().all(|stream| {
                 (1..=32_767).contains(&stream.id)

@@ -42,9 +42,10 @@ impl Program {
         }
     }
 
-    /// Annex 11.12, 11.13: a refused O closes the planner.
+    /// Annex 11.12, 11.13: messages are off, and a refused O closes the
+    /// planner.
     fn open(&mut self, [slots, superframe, gap, time]: [u64; 4]) -> String {
-        let (planner, answer) = Planner::open(slots, superframe, gap, time);
+        let (planner, answer) = Planner::open(slots, superframe, gap, time, 0);
         self.planner = planner;
         format!("O,{answer}")
     }

@@ -2,38 +2,49 @@
 //! scripts against a third way to the same answers, a simulation of rounds at
 //! every start.
 
+use crate::cases;
 use crate::count::{self, Counts};
 use crate::generate;
 use crate::packet::{self, Read};
 use crate::planner::{self, Planner, Stream};
 use crate::program::{self, Program};
+use crate::random_calls::{List, Step};
 use crate::rounds::Rounds;
 use std::process::ExitCode;
 
+/// Each check by its name.
+const CHECKS: [(&str, fn() -> bool); 25] = [
+    ("the three rounds and the other tables on the edge", tables),
+    ("figure 9 of the Blink paper", figure_9),
+    ("superframe", superframes),
+    ("lines", lines),
+    ("numbers", numbers),
+    ("the closed planner and the clock's end", closed_and_end),
+    ("rounds with no stream", no_streams),
+    ("rounds near the cap", gaps),
+    ("packets due at the same time", equals),
+    ("the slot buffer", buffer),
+    ("messages beside streams", messages),
+    ("messages on an empty table", messages_alone),
+    ("messages take a slot from streams", slots_for_streams),
+    ("refusals of messages", message_refusals),
+    ("planners with damaged messages", damaged_messages),
+    ("the packet of the first round", first_packet),
+    ("the packet reader's lengths", packet_lengths),
+    ("the packet reader's values", packet_values),
+    ("the packet writer's values", packet_writes),
+    ("the packet writer's buffer", packet_buffer),
+    ("generated scripts against a simulation", simulated),
+    ("random calls against a simulation", simulated_calls),
+    ("every answer in 20,000 generated lines", every_answer),
+    ("every answer in 20,000 random calls", every_answer_of_calls),
+    ("many rounds show the order and the cap", changes_shown),
+];
+
 /// Runs every check and says which ones fail.
 pub fn run() -> ExitCode {
-    let checks: [(&str, fn() -> bool); 18] = [
-        ("the three rounds and the other tables on the edge", tables),
-        ("figure 9 of the Blink paper", figure_9),
-        ("superframe", superframes),
-        ("lines", lines),
-        ("numbers", numbers),
-        ("the closed planner and the clock's end", closed_and_end),
-        ("rounds with no stream", no_streams),
-        ("rounds near the cap", gaps),
-        ("packets due at the same time", equals),
-        ("the slot buffer", buffer),
-        ("the packet of the first round", first_packet),
-        ("the packet reader's lengths", packet_lengths),
-        ("the packet reader's values", packet_values),
-        ("the packet writer's values", packet_writes),
-        ("the packet writer's buffer", packet_buffer),
-        ("generated scripts against a simulation", simulated),
-        ("every answer in 20,000 generated lines", every_answer),
-        ("many rounds show the order and the cap", changes_shown),
-    ];
     let mut failures = 0;
-    for (name, check) in checks {
+    for (name, check) in CHECKS {
         let good = check();
         println!("{} {name}", if good { "good" } else { "FAIL" });
         failures += u32::from(!good);
@@ -47,7 +58,20 @@ pub fn run() -> ExitCode {
 
 /// Input and output lines, written with " / " between.
 fn gives(input: &str, output: &str) -> bool {
-    let printed = program::run(input.replace(" / ", "\n").as_bytes());
+    same(program::run(lines_of(input).as_bytes()), input, output)
+}
+
+/// The same of the lines of `vectors/library`.
+fn calls_give(input: &str, output: &str) -> bool {
+    same(cases::answers(&lines_of(input)), input, output)
+}
+
+fn lines_of(input: &str) -> String {
+    input.replace(" / ", "\n")
+}
+
+/// Whether what was printed is what is wanted; else both are shown.
+fn same(printed: String, input: &str, output: &str) -> bool {
     let wanted: String = output
         .split(" / ")
         .map(|line| format!("{line}\n"))
@@ -235,7 +259,7 @@ fn equals() -> bool {
 /// Annex 7.26, 7.29: 16 for a buffer shorter than B, before 17, also where
 /// nothing is to be written; later places are untouched.
 fn buffer() -> bool {
-    let (mut planner, _) = Planner::open(2, 1, 1, planner::LAST_START - 3);
+    let (mut planner, _) = Planner::open(2, 1, 1, planner::LAST_START - 3, 0);
     let mut short = [7_u16; 1];
     let mut long = [7_u16; 3];
     let none = planner.round(&mut short) == Err(16)
@@ -248,6 +272,105 @@ fn buffer() -> bool {
     let still_short = planner.round(&mut short) == Err(16);
     let late = planner.round(&mut long) == Err(17);
     none && too_short && held && written && still_short && late
+}
+
+/// Annex 7.46, 7.47: B = 3 with messages on, so two slots for streams: the
+/// three rounds, each with a message behind its ids as long as any waits, and
+/// with a free element behind them where there is one; equal numbers wait
+/// together. With B = 5 two messages fit behind two ids, though one slot alone
+/// is kept. A message sent after a round is in the next.
+fn messages() -> bool {
+    let streams = "A,1,1,3,2 / A,2,1,6,6 / A,3,2,6,5";
+    let added = "A,1,0 / A,2,0 / A,3,0";
+    calls_give(
+        &format!("O,3,6,6,0,1 / {streams} / S,40000 / S,40000 / S,50000 / R 3 / R 3 / R 4 / R 3"),
+        &format!(
+            "O,0 / {added} / S,40000,0 / S,40000,0 / S,50000,0 / R 0 2 3 1 2 40000 / \
+             R 0 5 3 1 3 40000 / R 0 8 3 1 2 50000 0 / R 0 11 2 1 3 0"
+        ),
+    ) && calls_give(
+        "O,5,6,6,0,1 / A,1,1,3,2 / A,2,1,6,2 / S,40000 / S,40001 / S,40002 / S,40003 / R 5 / \
+         S,32768 / R 5 / R 5",
+        "O,0 / A,1,0 / A,2,0 / S,40000,0 / S,40001,0 / S,40002,0 / S,40003,0 / \
+         R 0 2 5 1 2 40000 40001 40002 / S,32768,0 / R 0 5 3 1 40003 32768 0 0 / R 0 8 2 1 2 0 0 0",
+    )
+}
+
+/// Annex 7.32: with no stream the round is held at the cap and carries up to B
+/// messages; 32 may wait, then 30, which comes behind 29; those that left make
+/// room. Annex 7.23: a removal leaves them.
+fn messages_alone() -> bool {
+    let sent = |answers: &str| {
+        let line = |number| format!("S,{number}{answers}");
+        let lines: Vec<String> = (32_768..32_800).map(line).collect();
+        lines.join(" / ")
+    };
+    calls_give(
+        &format!(
+            "O,2,6,6,0,1 / {} / S,40000 / S,32767 / S,98304 / S,0 / R 2 / R 2 / S,40000",
+            sent("")
+        ),
+        &format!(
+            "O,0 / {} / S,40000,30 / S,32767,29 / S,98304,29 / S,0,29 / R 0 7 2 32768 32769 / \
+             R 0 14 2 32770 32771 / S,40000,0",
+            sent(",0")
+        ),
+    ) && calls_give(
+        "O,2,6,6,0,1 / A,1,1,6,6 / S,40000 / D,1 / R 2",
+        "O,0 / A,1,0 / S,40000,0 / D,1,0 / R 0 7 1 40000 0",
+    )
+}
+
+/// Annex 3.16: two of (1,2,1) need two slots, and with messages on B = 2 has
+/// one; two of (1,6,6) are served in two rounds then, 5 and 6, with messages
+/// off in one, 6. The slot kept stays empty where nothing waits.
+fn slots_for_streams() -> bool {
+    calls_give(
+        "O,2,2,9,0,1 / A,1,1,2,1 / A,2,1,2,1 / O,2,2,9,0 / A,1,1,2,1 / A,2,1,2,1",
+        "O,0 / A,1,0 / A,2,12 / O,0 / A,1,0 / A,2,0",
+    ) && calls_give(
+        "O,2,6,9,0,1 / A,1,1,6,6 / A,2,1,6,6 / R 2 / R 2 / \
+         O,2,6,9,0,0 / A,1,1,6,6 / A,2,1,6,6 / R 2",
+        "O,0 / A,1,0 / A,2,0 / R 0 5 1 1 0 / R 0 6 1 2 0 / O,0 / A,1,0 / A,2,0 / R 0 6 2 1 2",
+    )
+}
+
+/// Annex 7.6, 7.42 to 7.44: B = 1 with messages on is 1, before 2; any number
+/// but 0 is on. 5, then 29, with messages off for every number. 16 and 17
+/// leave what waits, and 16 is compared with B.
+fn message_refusals() -> bool {
+    calls_give(
+        "S,40000 / O,1,6,6,0,1 / S,40000 / O,1,0,6,0,2 / O,0,6,6,0,1 / O,65,6,6,0,1 / \
+         O,2,6,6,0,4294967295 / S,40000 / O,64,6,6,0,256 / S,65535 / O,1,6,6,0,0 / S,40000 / S,0",
+        "S,40000,5 / O,1 / S,40000,5 / O,1 / O,1 / O,1 / \
+         O,0 / S,40000,0 / O,0 / S,65535,0 / O,0 / S,40000,29 / S,0,29",
+    ) && calls_give(
+        "O,2,6,2,999999996,1 / S,40000 / S,40001 / S,40002 / R 1 / R 2 / R 2 / R 1 / \
+         A,1,1000000000,6,1 / R 2",
+        "O,0 / S,40000,0 / S,40001,0 / S,40002,0 / R 16 0 0 0 / R 0 999999999 2 40000 40001 / \
+         R 17 0 0 0 0 / R 16 0 0 0 / A,1,0 / R 0 1000000000 2 1 40002",
+    )
+}
+
+/// Annex 3.17: what is not sound of the values of messages.
+fn damaged_messages() -> bool {
+    let damaged = |set: &str, back: &str, then: &str| {
+        calls_give(
+            &format!("O,2,6,6,0,1 / S,40000 / {set} / R 2 / S,40001 / D,1 / {back} / R 2"),
+            &format!("O,0 / S,40000,0 / M / R 5 0 0 0 0 / S,40001,5 / D,1,5 / M / {then}"),
+        )
+    };
+    let good = "R 0 7 1 40000 0";
+    damaged("M messages 2", "M messages 1", good)
+        && damaged("M messages 0", "M messages 1", good)
+        && damaged("M count 33", "M count 1", good)
+        && damaged("M count 40", "M count 1", good)
+        && damaged("M number 0 32767", "M number 0 65535", "R 0 7 1 65535 0")
+        && damaged("M slots 1", "M slots 2", good)
+        && calls_give(
+            "O,2,6,6,0,1 / S,40000 / M number 1 50000 / M count 2 / R 2",
+            "O,0 / S,40000,0 / M / M / R 0 7 2 40000 50000",
+        )
 }
 
 /// The first of the three rounds, `R,0,2,2,1,2`: start 2, B = 2, ids 1 and 2,
@@ -356,14 +479,26 @@ fn packet_values() -> bool {
         && reads(&id(32_767), (2, 3, 3))
         && read_refused(&id(32_768), 27)
         && read_refused(&id(65_535), 27)
+        && read_refused(&bytes(2, 3, 3, &[40_000, 0, 40_000]), 27)
         && read_refused(&bytes(2, 3, 3, &[0, 1, 2]), 27)
         && read_refused(&bytes(2, 3, 3, &[1, 2, 0]), 27);
+    // messages behind the ids, equal ones too, and no id behind a message
+    let messages = reads(&bytes(2, 3, 3, &[1, 40_000, 40_000]), (2, 3, 3))
+        && reads(&bytes(2, 3, 1, &[32_768]), (2, 3, 1))
+        && reads(&bytes(2, 1, 1, &[65_535]), (2, 1, 1))
+        && reads(&bytes(2, 2, 2, &[32_767, 32_768]), (2, 2, 2))
+        && read_refused(&bytes(2, 2, 2, &[40_000, 1]), 27)
+        && read_refused(&bytes(2, 2, 2, &[32_768, 32_767]), 27)
+        && read_refused(&bytes(2, 3, 3, &[1, 40_000, 1]), 27)
+        && read_refused(&bytes(2, 3, 3, &[1, 40_000, 0]), 27)
+        && read_refused(&bytes(2, 2, 3, &[1, 40_000, 40_000]), 27)
+        && read_refused(&bytes(2, 3, 3, &[1, 1, 40_000]), 27);
     let mut twice = first_ids(64);
     twice[63] = twice[0];
     let twice = read_refused(&bytes(2, 64, 64, &twice), 27)
         && read_refused(&bytes(2, 3, 2, &[1, 1]), 27)
         && reads(&bytes(2, 3, 2, &[1, 257]), (2, 3, 2));
-    start && slots && n && most && ids && twice
+    start && slots && n && most && ids && messages && twice
 }
 
 /// The answer to a write; whatever it is, the bytes after the packet's end are
@@ -409,7 +544,10 @@ fn packet_writes() -> bool {
         && gives(2, 3, &[5, 1, 6], 0)
         && gives(2, 3, &[5, 32_767, 6], 0)
         && gives(2, 3, &[5, 32_768, 6], 27)
-        && gives(2, 3, &[5, 65_535, 6], 27);
+        && gives(2, 3, &[5, 65_535, 6], 27)
+        && gives(2, 3, &[5, 32_768, 65_535], 0)
+        && gives(2, 2, &[40_000, 40_000], 0)
+        && gives(2, 2, &[5, 40_000, 40_000], 27);
     let mut twice = first_ids(64);
     twice[63] = twice[0];
     start && slots && n && long && ids && gives(2, 64, &twice, 27) && gives(2, 2, &[9, 9], 27)
@@ -451,7 +589,7 @@ fn simulated_script(script: &[u8]) -> bool {
                 b'A' => add_as_simulated(&before, line, count::number(&printed)),
                 b'R' => {
                     round_as_simulated(&before, after, count::number(&printed))
-                        && slots_in_order(&before, after.last, &printed)
+                        && slots_in_order(&before, after.last, printed_ids(&printed))
                 }
                 _ => true,
             };
@@ -461,6 +599,74 @@ fn simulated_script(script: &[u8]) -> bool {
         }
     }
     true
+}
+
+/// The ids of a printed round that was held, else none.
+fn printed_ids(printed: &str) -> Option<Vec<u64>> {
+    let fields = printed.strip_prefix("R,0,")?.split(',');
+    let ids = fields.skip(2).map(|id| id.parse().expect("an id"));
+    Some(ids.collect())
+}
+
+/// The same of random calls, in which messages may be on: then a round lists
+/// ids first, as above, and behind them the messages that were sent first, as
+/// many as fit. What waits is kept here a second time.
+fn simulated_calls() -> bool {
+    (1..=5).all(|seed| {
+        let mut list = List::new(seed);
+        let mut waiting = Vec::new();
+        (0..3_000).all(|_| {
+            let before = list.calls.planner.clone();
+            let step = list.step();
+            let good = simulated_step(&before, &list.calls.planner, &step, &mut waiting);
+            if !good {
+                println!("after {before:?}\ncalled {}", step.text());
+            }
+            good
+        })
+    })
+}
+
+fn simulated_step(before: &Planner, after: &Planner, step: &Step, waiting: &mut Vec<u64>) -> bool {
+    let answer = step.answer as usize;
+    match step.line.as_bytes()[0] {
+        b'O' => waiting.clear(),
+        b'S' if answer == 0 => waiting.push(step.line[2..].parse().expect("a number")),
+        _ => {}
+    }
+    let numbers = held_numbers(step);
+    let mut ids: Vec<u64> = numbers.clone().unwrap_or_default();
+    let messages = ids.split_off(ids.iter().take_while(|number| **number < 32_768).count());
+    let free = before.slots as usize - ids.len();
+    let fitting = if numbers.is_some() {
+        waiting.len().min(free)
+    } else {
+        0
+    };
+    let first: Vec<u64> = waiting.drain(..fitting).collect();
+    // Tables with a long superframe take too long here.
+    let short = !before.is_closed() && before.superframe <= 480;
+    messages == first
+        && (after.is_closed() || !short || after.sound())
+        && match step.line.as_bytes()[0] {
+            b'A' if short => add_as_simulated(before, step.line.as_bytes(), answer),
+            b'R' if short => {
+                round_as_simulated(before, after, answer)
+                    && slots_in_order(before, after.last, numbers.map(|_| ids))
+            }
+            _ => true,
+        }
+}
+
+/// The first n places of a held round's buffer, if the others were left.
+fn held_numbers(step: &Step) -> Option<Vec<u64>> {
+    let round = step.round.as_ref().filter(|round| round.answer == 0)?;
+    let (written, left) = round.buffer.split_at(round.n);
+    assert!(
+        left.iter().all(|place| *place == 0),
+        "a later place written"
+    );
+    Some(written.iter().map(|number| u64::from(*number)).collect())
 }
 
 /// Annex 12.5: 12 exactly if no plan serves the table with every start and the
@@ -514,15 +720,16 @@ fn round_as_simulated(before: &Planner, after: &Planner, answer: usize) -> bool 
 }
 
 /// The ids of a held round are of packets that may ride, each goes before the
-/// next, and the last before every such packet left out; B of them, or all.
-fn slots_in_order(before: &Planner, start: u64, printed: &str) -> bool {
-    let Some(ids) = printed.strip_prefix("R,0,") else {
+/// next, and the last before every such packet left out; as many of them as
+/// there are slots for streams, or all.
+fn slots_in_order(before: &Planner, start: u64, ids: Option<Vec<u64>>) -> bool {
+    let Some(ids) = ids else {
         return true;
     };
     let (mut out, mut listed) = (before.streams.clone(), Vec::new());
     out.retain(|stream| stream.may_ride(start));
-    for id in ids.split(',').skip(2) {
-        let Some(place) = out.iter().position(|stream| stream.id.to_string() == id) else {
+    for id in ids {
+        let Some(place) = out.iter().position(|stream| stream.id == id) else {
             return false;
         };
         listed.push(out.remove(place));
@@ -531,7 +738,7 @@ fn slots_in_order(before: &Planner, start: u64, printed: &str) -> bool {
     let first = listed
         .last()
         .is_none_or(|last| out.iter().all(|left| goes_before(last, left)));
-    in_order && first && (out.is_empty() || listed.len() as u64 == before.slots)
+    in_order && first && (out.is_empty() || listed.len() as u64 == before.stream_slots())
 }
 
 /// Annex 5.2: earlier due; due at the same time, earlier released; with equal
@@ -557,7 +764,7 @@ fn served(table: &Planner, moment: u64) -> bool {
         }
         streams.sort_by_key(Stream::due);
         let released = streams.iter_mut().filter(|stream| stream.release <= s);
-        for stream in released.take(table.slots as usize) {
+        for stream in released.take(table.stream_slots() as usize) {
             stream.release += stream.period;
         }
     }
@@ -575,6 +782,63 @@ fn every_answer() -> bool {
         .all(|number| counts.total(number) >= 12);
     let impossible = [15, 16, 18, 19];
     enough && impossible.iter().all(|number| counts.total(*number) == 0)
+}
+
+/// What a list of 20,000 calls has three times at least: each answer of each
+/// call; B of 1, 2, 3 and 64; rounds with and without ids and messages, on an
+/// empty table and on others; and messages that wait when a round is refused
+/// with 17 and are in a later one.
+const KINDS: &str = "\
+    O 0/O 1/O 2/O 3/O 4/A 0/A 5/A 6/A 7/A 8/A 9/A 10/A 11/A 12/A 13/D 0/D 5/D 14/\
+    S 0/S 5/S 29/S 30/R 0/R 5/R 16/R 17/B 1/B 2/B 3/B 64/after 17/\
+    ids 0, messages 0, streams 0/ids 0, messages 1, streams 0/ids 0, messages 2, streams 0/\
+    ids 0, messages 0, streams 1/ids 0, messages 1, streams 1/ids 0, messages 2, streams 1/\
+    ids 1, messages 0, streams 1/ids 1, messages 1, streams 1/ids 1, messages 2, streams 1";
+
+fn every_answer_of_calls() -> bool {
+    let mut list = List::new(1);
+    let mut kinds = Vec::new();
+    let mut late = false;
+    for _ in 0..20_000 {
+        let before = list.calls.planner.clone();
+        let step = list.step();
+        kinds.extend(kinds_of(&before, &step, late));
+        late = !step.line.starts_with('O') && (late || step.answer == 17);
+    }
+    KINDS.split('/').all(|wanted| {
+        let count = kinds.iter().filter(|kind| *kind == wanted).count();
+        if count < 3 {
+            println!("{wanted}: {count} times");
+        }
+        count >= 3
+    })
+}
+
+/// What a call is an example of; `late` says that a 17 was answered since the
+/// last opening. Of more than one stream or id one is counted, of messages
+/// two.
+fn kinds_of(before: &Planner, step: &Step, late: bool) -> Vec<String> {
+    let letter = &step.line[..1];
+    let mut kinds = vec![format!("{letter} {}", step.answer)];
+    if letter == "O" && step.answer == 0 {
+        let slots = step.line[2..].split(',').next();
+        kinds.push(format!("B {}", slots.expect("the first number")));
+    }
+    if let Some(numbers) = held_numbers(step) {
+        let ids = numbers.iter().filter(|number| **number < 32_768).count();
+        let messages = numbers.len() - ids;
+        let streams = before.streams.len();
+        kinds.push(format!(
+            "ids {}, messages {}, streams {}",
+            ids.min(1),
+            messages.min(2),
+            streams.min(1)
+        ));
+        if late && messages > 0 {
+            kinds.push(String::from("after 17"));
+        }
+    }
+    kinds
 }
 
 /// Of the rounds held in such a script at least a tenth would be listed

@@ -1,4 +1,4 @@
-# find_package(planner 6) gives the target planner::planner: the library with its headers. It stands in PREFIX/lib/cmake/planner, wherever PREFIX is.
+# find_package(planner 7) gives the target planner::planner: the library with its headers. It stands in PREFIX/lib/cmake/planner, wherever PREFIX is.
 get_filename_component(_planner_prefix "${CMAKE_CURRENT_LIST_DIR}/../../.." ABSOLUTE)
 foreach(_planner_file lib/libplanner.a include/planner.h)
     if(NOT EXISTS "${_planner_prefix}/${_planner_file}")

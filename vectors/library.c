@@ -3,11 +3,14 @@
  *   W START B LENGTH ID ..   packet_write to a buffer filled with ee: W ANSWER BYTES. Four bytes, four, two, and two an id
  *   S BYTES                  superframe of these periods: S ANSWER VALUE
  *   O,B,F,G,T A,id,S,P,D D,id   the calls on one planner, answered as the command program answers
- *   R LENGTH                 a round with a buffer of LENGTH elements, each 60000: R ANSWER START N, and all elements
+ *   O,B,F,G,T,MESSAGES       planner_open with messages, which are 0 in an O of four numbers
+ *   S,NUMBER                 planner_send: S,NUMBER,ANSWER
+ *   R LENGTH                 a round with a buffer of LENGTH elements, each 0: R ANSWER START N, and all elements
  *   F LENGTH N               planner_filled: F ELEMENTS
- *   M FIELD VALUE            sets slots, frame, gap or last in the planner's memory: M
+ *   M FIELD VALUE            sets slots, frame, gap, messages, last, or the count of waiting messages in the planner's memory: M
+ *   M number PLACE VALUE     sets the waiting message at a place from 0: M
  * A line ends in ` changed` where a refused call left another byte in the planner (7.3), and in ` differs` where the planner that O leaves is not
- * byte by byte what the same O leaves in other memory (7.7, 7.8); no vector expects either.
+ * byte by byte what the same O leaves in other memory (7.7, 7.8), or where a round wrote an element behind its n (7.29); no vector expects either.
  * Bytes are in hex with blanks anywhere. Any other line is passed over. Each line is as one of vectors/library: nothing tests that.
  * To build it, LIB being lib of the bundle or target/lib of the repository: cc -std=c99 -Iinclude vectors/library.c -LLIB -lplanner -o library */
 #include "packets.h"
@@ -20,7 +23,10 @@
 #define MOST_TEXT 4096
 #define MOST_BYTES 1024
 #define MOST_ELEMENTS 512
-#define BEFORE 60000
+/* What the elements of a round's buffer are before: 0 is the one number of 16 bits that is neither an id nor a message, so that none of the n is
+ * taken for one that was left; where 0 is written, the other shows it. */
+#define BEFORE 0
+#define OTHER_BEFORE 65535
 
 /* The value of a hex digit; 16 for any other byte. */
 static unsigned digit_value(char c) {
@@ -97,10 +103,10 @@ static void give_superframe(const uint8_t *periods, size_t count) {
     printf("\n");
 }
 
-/* The numbers in a text, whatever parts them; how many they are, at most four. */
+/* The numbers in a text, whatever parts them; how many they are, at most five. */
 static size_t numbers_in(const char *text, uint32_t *numbers) {
     size_t count = 0;
-    while (count < 4 && *(text += strcspn(text, "0123456789")) != '\0') {
+    while (count < 5 && *(text += strcspn(text, "0123456789")) != '\0') {
         char *end;
         numbers[count++] = (uint32_t)strtoul(text, &end, 10);
         text = end;
@@ -116,30 +122,53 @@ static void end_call(const struct planner *planner, const struct planner *before
 static void open_planner(struct planner *planner, const uint32_t *x) {
     static struct planner other;
     memset(&other, 0xa5, sizeof other);
-    (void)planner_open(&other, x[0], x[1], x[2], x[3]);
-    print_number("O,", planner_open(planner, x[0], x[1], x[2], x[3]));
+    (void)planner_open(&other, x[0], x[1], x[2], x[3], x[4]);
+    print_number("O,", planner_open(planner, x[0], x[1], x[2], x[3], x[4]));
     printf("%s\n", memcmp(planner, &other, sizeof other) != 0 ? " differs" : "");
 }
 
-static void hold_round(struct planner *planner, size_t length) {
-    struct planner before = *planner;
-    uint16_t buffer[MOST_ELEMENTS];
+static struct planner_held round_over(struct planner *planner, uint16_t fill, uint16_t *buffer, size_t length) {
     for (size_t i = 0; i < MOST_ELEMENTS; i++) {
-        buffer[i] = BEFORE;
+        buffer[i] = fill;
     }
-    struct planner_held held = planner_round(planner, buffer, length % (MOST_ELEMENTS + 1));
+    return planner_round(planner, buffer, length);
+}
+
+/* Whether the same round over another fill wrote the same first n elements, and left all others. */
+static int same_written(const uint16_t *buffer, const uint16_t *other, uint32_t n) {
+    for (size_t i = 0; i < MOST_ELEMENTS; i++) {
+        if (i < n ? buffer[i] != other[i] : buffer[i] != BEFORE || other[i] != OTHER_BEFORE) {
+            return 0;
+        }
+    }
+    return 1;
+}
+
+static void hold_round(struct planner *planner, size_t length) {
+    struct planner before = *planner, copy = *planner;
+    uint16_t buffer[MOST_ELEMENTS], other[MOST_ELEMENTS];
+    struct planner_held held = round_over(planner, BEFORE, buffer, length % (MOST_ELEMENTS + 1));
+    (void)round_over(&copy, OTHER_BEFORE, other, length % (MOST_ELEMENTS + 1));
     print_number("R ", held.answer);
     print_number(" ", held.start);
     print_number(" ", held.n);
     for (size_t i = 0; i < length; i++) {
         print_number(" ", buffer[i]);
     }
+    printf("%s", same_written(buffer, other, held.n) ? "" : " differs");
     end_call(planner, &before, held.answer);
+}
+
+static uint32_t answer_to(struct planner *planner, char letter, const uint32_t *x) {
+    if (letter == 'A') {
+        return planner_add(planner, x[0], x[1], x[2], x[3]);
+    }
+    return letter == 'D' ? planner_remove(planner, x[0]) : planner_send(planner, x[0]);
 }
 
 static void change(struct planner *planner, char letter, const uint32_t *x) {
     struct planner before = *planner;
-    uint32_t answer = letter == 'A' ? planner_add(planner, x[0], x[1], x[2], x[3]) : planner_remove(planner, x[0]);
+    uint32_t answer = answer_to(planner, letter, x);
     printf("%c", letter);
     print_number(",", x[0]);
     print_number(",", answer);
@@ -154,28 +183,39 @@ static void give_filled(size_t length, uint32_t n) {
 
 /* The field that a text names. */
 static uint32_t *field_in(struct planner *planner, const char *text) {
-    if (strncmp(text, "slots ", 6) == 0) {
-        return &planner->slots;
+    const struct {
+        const char *name;
+        uint32_t *field;
+    } fields[] = {{"slots ", &planner->slots}, {"frame ", &planner->frame}, {"gap ", &planner->gap},
+                  {"messages ", &planner->messages}, {"count ", &planner->waiting.count}};
+    for (size_t i = 0; i < sizeof fields / sizeof *fields; i++) {
+        if (strncmp(text, fields[i].name, strlen(fields[i].name)) == 0) {
+            return fields[i].field;
+        }
     }
-    if (strncmp(text, "frame ", 6) == 0) {
-        return &planner->frame;
+    return &planner->last;
+}
+
+static void set_memory(struct planner *planner, const char *text, const uint32_t *x) {
+    if (strncmp(text, "number ", 7) == 0) {
+        planner->waiting.numbers[x[0] % PLANNER_MOST_WAITING] = (uint16_t)x[1];
+    } else {
+        *field_in(planner, text) = x[0];
     }
-    return strncmp(text, "gap ", 4) == 0 ? &planner->gap : &planner->last;
+    printf("M\n");
 }
 
 static void call(struct planner *planner, const char *text) {
-    uint32_t x[4] = {0, 0, 0, 0};
+    uint32_t x[5] = {0, 0, 0, 0, 0};
     numbers_in(text, x);
     switch (text[0]) {
     case 'O': open_planner(planner, x); break;
     case 'A':
-    case 'D': change(planner, text[0], x); break;
+    case 'D':
+    case 'S': change(planner, text[0], x); break;
     case 'R': hold_round(planner, x[0]); break;
     case 'F': give_filled(x[0], x[1]); break;
-    case 'M':
-        *field_in(planner, text + 2) = x[0];
-        printf("M\n");
-        break;
+    case 'M': set_memory(planner, text + 2, x); break;
     default: break;
     }
 }
@@ -183,7 +223,7 @@ static void call(struct planner *planner, const char *text) {
 int main(void) {
     static struct planner planner; /* zeros: the memory is written before it is lent, 7.39 */
     static char text[MOST_TEXT];
-    (void)planner_open(&planner, 0, 0, 0, 0); /* refused, so that it begins closed, 3.12 */
+    (void)planner_open(&planner, 0, 0, 0, 0, 0); /* refused, so that it begins closed, 3.12 */
     while (fgets(text, MOST_TEXT, stdin) != NULL) {
         uint8_t bytes[MOST_BYTES] = {0};
         size_t count = bytes_in(text + 1, bytes);
@@ -191,7 +231,7 @@ int main(void) {
             read_packet(bytes, count);
         } else if (text[0] == 'W') {
             write_packet(bytes, count);
-        } else if (text[0] == 'S') {
+        } else if (text[0] == 'S' && text[1] != ',') {
             give_superframe(bytes, count);
         } else {
             call(&planner, text);

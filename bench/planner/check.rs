@@ -1,10 +1,12 @@
-// Random calls on random planners, and on planners with a damage: `limit` must answer as the proved call does and leave the same bytes.
+// Random calls on random planners, with messages on and off, and on planners with a damage: `limit` must answer as the proved call does and leave the
+// same bytes.
 // Many streams are due together, released in another order than their ids, since their order shows nothing where all due times differ.
 use super::limit::Limit;
 use super::proved::{hold, open_at, streams, Planner};
 use super::tables::Random;
 use super::{Host, Offer};
 use planner::raw::BYTES;
+use planner::Setting;
 
 const PLANNERS: u32 = 2000;
 const CALLS: u32 = 150;
@@ -56,6 +58,23 @@ fn damage_lists(p: &mut Planner, random: &mut Random) {
     }
 }
 
+// The flag, the count of waiting messages or one of them, each at its edges; and B where it may be too small for the flag.
+fn damage_messages(p: &mut Planner, random: &mut Random) {
+    let any = random.below(1 << 31) * 2 + random.below(2);
+    let waiting = random.below(p.waiting.count.clamp(1, 32)) as usize;
+    let count = p.waiting.count;
+    match random.below(8) {
+        0 => p.messages = [0, 1, 2, any][random.below(4) as usize],
+        1 => p.waiting.count = [0, 1, 31, 32, 33, 40, any][random.below(7) as usize],
+        2 => p.waiting.count = [count.wrapping_sub(1), count + 1][random.below(2) as usize],
+        3 => p.waiting.numbers[waiting] = [0, 32_767, 32_768, 65_535, any as u16][random.below(5) as usize],
+        4 => p.waiting.numbers[random.below(32) as usize] = any as u16,
+        5 => (p.waiting.count, p.waiting.numbers) = (33, [40_000; 32]),
+        6 => (p.messages, p.waiting.count) = (0, 1),
+        _ => (p.messages, p.slots) = (1, 1 + random.below(2)),
+    }
+}
+
 fn flip_a_bit(p: &mut Planner, random: &mut Random) {
     let mut bytes = *p.as_bytes();
     let byte = random.below(BYTES as u32) as usize;
@@ -67,7 +86,7 @@ fn damage(p: &mut Planner, random: &mut Random) {
     let any = |random: &mut Random| random.below(1 << 31) * 2 + random.below(2);
     let (x, y, node) = (random.below(64) as usize, random.below(64) as usize, random.below(544) as usize);
     let used = random.below(p.table.count.clamp(1, 64) as u32) as usize;
-    match random.below(29) {
+    match random.below(34) {
         0 => p.queue.next[node] = random.below(544) as u16,
         1 => p.queue.prev[node] = random.below(544) as u16,
         2 => p.queue.next[x] = random.below(700) as u16,
@@ -95,6 +114,7 @@ fn damage(p: &mut Planner, random: &mut Random) {
         21 => (p.queue.next[x], p.queue.prev[x]) = (x as u16, x as u16),
         22 | 23 => damage_lists(p, random),
         24..=27 => damage_releases(p, random),
+        28..=32 => damage_messages(p, random),
         _ => flip_a_bit(p, random),
     }
 }
@@ -140,6 +160,24 @@ fn remove_both(p: &mut Planner, limit: &mut Limit, id: u32) -> u32 {
     answer
 }
 
+// A message, or now and then a number that is none.
+fn number_drawn(random: &mut Random) -> u32 {
+    match random.below(12) {
+        0 => [0, 1, 32_767, 65_536, 98_304, u32::MAX][random.below(6) as usize],
+        1 => random.below(1 << 31) * 2,
+        2 => [32_768, 65_535][random.below(2) as usize],
+        _ => 32_768 + random.below(32_768),
+    }
+}
+
+fn send_both(p: &mut Planner, limit: &mut Limit, random: &mut Random) -> u32 {
+    let number = number_drawn(random);
+    let answer = p.send(number);
+    assert_eq!(answer, limit.send(number), "send");
+    assert!(p.as_bytes() == limit.0.as_bytes(), "bytes after a send");
+    answer
+}
+
 // The answer, and 1 where ids alone would have put the slots in another order.
 fn round_both(p: &mut Planner, limit: &mut Limit, length: usize) -> (u32, u32) {
     let (mut one, mut other) = ([7u16; 64], [7u16; 64]);
@@ -154,15 +192,17 @@ fn round_both(p: &mut Planner, limit: &mut Limit, length: usize) -> (u32, u32) {
     let streams = streams(&before);
     let mut by_id: Vec<(u32, u16)> = streams.iter().filter(|s| s[3] <= held.start).map(|s| (s[3] + s[2], s[0] as u16)).collect();
     by_id.sort_unstable();
-    (0, u32::from(by_id.iter().zip(&one[..held.n as usize]).any(|(there, id)| there.1 != *id)))
+    let ids = one[..held.n as usize].iter().filter(|id| **id < 32_768);
+    (0, u32::from(by_id.iter().zip(ids).any(|(there, id)| there.1 != *id)))
 }
 
 // Makes both the same call.
 fn both(p: &mut Planner, limit: &mut Limit, random: &mut Random) -> (u32, u32) {
     let held_id = p.table.streams[random.below(p.table.count.clamp(1, 64) as u32) as usize % 64].id;
-    match random.below(6) {
+    match random.below(8) {
         0 | 1 => (add_both(p, limit, offered(p, held_id, random)), 0),
-        2 if random.below(3) == 0 => {
+        2 | 3 => (send_both(p, limit, random), 0),
+        4 if random.below(3) == 0 => {
             let id = if random.below(3) == 0 { random.below(300) } else { held_id };
             (remove_both(p, limit, id), 0)
         }
@@ -176,7 +216,7 @@ fn both(p: &mut Planner, limit: &mut Limit, random: &mut Random) -> (u32, u32) {
 // How often each answer was given, and how many rounds ids alone would have put in another order.
 #[derive(Default)]
 struct Seen {
-    answers: [u32; 18],
+    answers: [u32; 31],
     ties: u32,
 }
 
@@ -212,7 +252,8 @@ pub fn check() {
         let frame = [5040, 2520, 240, 12, 1][random.below(5) as usize];
         let last = if k % 20 == 0 { 999_999_000 + random.below(1001) } else { random.below(100_000) };
         let slots = 1 + random.below(if k % 2 == 0 { 4 } else { 64 });
-        let mut p = open_at(slots, frame, 1 + random.below(255), last);
+        let messages = slots > 1 && k % 3 != 0;
+        let mut p = open_at(Setting { slots, frame, gap: 1 + random.below(255), last, messages });
         let mut limit = Limit(p);
         let filled = k % 2 == 1;
         if filled {
@@ -220,6 +261,10 @@ pub fn check() {
         }
         for _ in 0..if filled { CALLS - 80 } else { CALLS } {
             undamaged.note(both(&mut p, &mut limit, &mut random));
+            // as many as can wait, and more
+            for _ in 0..if messages && random.below(20) == 0 { 34 } else { 0 } {
+                undamaged.note((send_both(&mut p, &mut limit, &mut random), 0));
+            }
             for _ in 0..4 {
                 let mut q = p;
                 damage(&mut q, &mut random);

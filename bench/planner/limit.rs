@@ -5,10 +5,11 @@
 //     one go;
 //   - as many places hold an entry as there are streams, so no other place does;
 //   - all other heads are their own neighbours both ways, counted eight at a time;
+//   - the waiting messages are numbers with the sign bit of 16 bits, gathered sixteen at a time;
 //   - a table that keeps both rules with one stream more keeps them without it, so that an add that is accepted tests them once.
 // The busy length is found by going up to the least fixed point, with a division for each stream and step; due times are counted in an
 // array of lengths.
-use super::proved::{Held, Planner, Stream};
+use super::proved::{Held, Planner, Stream, Waiting};
 use super::{mixed, Host, Offer};
 use std::arch::x86_64::*;
 use std::mem::MaybeUninit;
@@ -366,11 +367,32 @@ fn lazy_start(streams: &[Stream; 64], count: usize, slots: u32, frame: u32, gap:
     Some(start as u32)
 }
 
-// Numbers, count and table: the first due time less now if they are in range.
+// B, less 1 with messages on.
+#[inline(always)]
+fn slots_for_streams(p: &Planner) -> u32 {
+    p.slots - p.messages
+}
+
+// Whether the first `count` places, at most 32, all have a message: a number with the sign bit of 16 bits.
+#[inline(always)]
+unsafe fn are_messages(p: &Planner) -> bool {
+    let at = p.waiting.numbers.as_ptr().cast::<__m128i>();
+    let signs = |k| _mm_movemask_epi8(_mm_packs_epi16(_mm_loadu_si128(at.add(k)), _mm_loadu_si128(at.add(k + 1)))) as u64;
+    let missing = !(signs(0) | signs(2) << 16);
+    missing & ((1u64 << p.waiting.count) - 1) == 0
+}
+
+// The flag and what waits.
+#[inline(always)]
+fn messages_in_range(p: &Planner) -> bool {
+    p.messages <= 1 && p.slots > p.messages && p.waiting.count <= 32 * p.messages && unsafe { are_messages(p) }
+}
+
+// Numbers, count, messages and table: the first due time less now if they are in range.
 #[inline(always)]
 fn in_range(p: &Planner, c: &mut Columns) -> Option<usize> {
-    let ranges = p.slots.wrapping_sub(1) < 64 && p.frame.wrapping_sub(1) < 5040 && p.gap.wrapping_sub(1) < 255 && p.last <= 1_000_000_000;
-    if !ranges || p.table.count > 64 {
+    let ranges = p.slots <= 64 && p.frame.wrapping_sub(1) < 5040 && p.gap.wrapping_sub(1) < 255 && p.last <= 1_000_000_000;
+    if !ranges || !messages_in_range(p) || p.table.count > 64 {
         return None;
     }
     unsafe { columns(p, c) }
@@ -418,7 +440,7 @@ fn serve(p: &mut Planner, row: usize, x: usize) {
 #[inline(always)]
 fn serve_all(p: &mut Planner, rows: &[u8; 64], times: [u64; 8], start: u32, buffer: &mut [u16]) -> usize {
     let base = (p.last + 1) as usize % BUCKETS;
-    let slots = p.slots as usize;
+    let slots = slots_for_streams(p) as usize;
     let mut n = 0;
     for (word, times) in times.into_iter().enumerate() {
         let mut left = times;
@@ -443,6 +465,24 @@ fn serve_all(p: &mut Planner, rows: &[u8; 64], times: [u64; 8], start: u32, buff
     n
 }
 
+// The messages that fit behind n ids leave for the buffer; how many. The rest moves to the front, with zeros behind it.
+#[inline(always)]
+fn list(p: &mut Planner, n: usize, buffer: &mut [u16]) -> usize {
+    let waiting = p.waiting.count as usize;
+    let listed = waiting.min(p.slots as usize - n);
+    let rest = waiting - listed;
+    let mut left = [0; 32];
+    if waiting > 0 {
+        let from = p.waiting.numbers.as_ptr();
+        unsafe {
+            from.copy_to_nonoverlapping(buffer.as_mut_ptr().add(n), listed);
+            from.add(listed).copy_to_nonoverlapping(left.as_mut_ptr(), rest);
+        }
+    }
+    p.waiting = Waiting { count: rest as u32, numbers: left };
+    listed
+}
+
 #[allow(invalid_value)]
 #[allow(clippy::uninit_assumed_init)]
 fn scratch<T>() -> T {
@@ -458,7 +498,7 @@ impl Limit {
         let p = &mut self.0;
         let mut c: Columns = scratch();
         let Some(first) = in_range(p, &mut c) else { return refused(5) };
-        let Some(start) = lazy_start(&p.table.streams, p.table.count, p.slots, p.frame, p.gap, &c, first) else { return refused(5) };
+        let Some(start) = lazy_start(&p.table.streams, p.table.count, slots_for_streams(p), p.frame, p.gap, &c, first) else { return refused(5) };
         let mut rows: [u8; 64] = scratch();
         if !is_filed(p, &c, &mut rows) {
             return refused(5);
@@ -471,7 +511,8 @@ impl Limit {
         }
         let times = unsafe { due_times(&c, p.table.count, start as i16) };
         let start = p.last + 1 + start;
-        let n = serve_all(p, &rows, times, start, buffer);
+        let ids = serve_all(p, &rows, times, start, buffer);
+        let n = ids + list(p, ids, buffer);
         p.last = start;
         Held { answer: 0, start, n: n as u32 }
     }
@@ -535,7 +576,7 @@ impl Host for Limit {
         if !is_filed(p, &c, &mut scratch()) {
             return 5;
         }
-        let rules = |streams: &[Stream; 64], count, c: &Columns, first| lazy_start(streams, count, p.slots, p.frame, p.gap, c, first).is_some();
+        let rules = |streams: &[Stream; 64], count, c: &Columns, first| lazy_start(streams, count, slots_for_streams(p), p.frame, p.gap, c, first).is_some();
         let refusal = self.offer_refusal(o);
         if refusal != 0 {
             return if rules(&p.table.streams, p.table.count, &c, first) { refusal } else { 5 };
@@ -570,9 +611,7 @@ impl Host for Limit {
 
     fn remove(&mut self, id: u32) -> u32 {
         let p = &self.0;
-        let mut c: Columns = scratch();
-        let Some(first) = in_range(p, &mut c) else { return 5 };
-        if !is_filed(p, &c, &mut scratch()) || lazy_start(&p.table.streams, p.table.count, p.slots, p.frame, p.gap, &c, first).is_none() {
+        if !self.is_sound() {
             return 5;
         }
         let Some(row) = p.table.streams[..p.table.count].iter().position(|s| s.id == id) else { return 14 };
@@ -588,17 +627,46 @@ impl Host for Limit {
         (p.queue.ids[x], p.queue.keys[x], p.queue.releases[x], p.queue.next[x], p.queue.prev[x]) = (0, 0, 0, 0, 0);
         0
     }
+
+    fn send(&mut self, number: u32) -> u32 {
+        if !self.is_sound() {
+            return 5;
+        }
+        let p = &mut self.0;
+        if number.wrapping_sub(32_768) >= 32_768 || p.messages == 0 {
+            return 29;
+        }
+        if p.waiting.count == 32 {
+            return 30;
+        }
+        set(&mut p.waiting.numbers, p.waiting.count as usize, number as u16);
+        p.waiting.count += 1;
+        0
+    }
+
+    fn fill_waiting(&mut self) {
+        self.0.fill_waiting();
+    }
 }
 
 impl Limit {
+    #[inline(always)]
+    fn is_sound(&self) -> bool {
+        let p = &self.0;
+        let mut c: Columns = scratch();
+        let Some(first) = in_range(p, &mut c) else { return false };
+        is_filed(p, &c, &mut scratch()) && lazy_start(&p.table.streams, p.table.count, slots_for_streams(p), p.frame, p.gap, &c, first).is_some()
+    }
+
     fn keeps_demand_rule(&self, streams: &[Stream; 64], count: usize, c: &Columns) -> bool {
-        let Some(busy) = (unsafe { busy_length(count, self.0.slots, self.0.frame, c) }) else { return false };
+        let slots = slots_for_streams(&self.0);
+        let Some(busy) = (unsafe { busy_length(count, slots, self.0.frame, c) }) else { return false };
         let mut counts: Counts = [MaybeUninit::uninit(); 5120];
         unsafe { count_times(streams, &c.deadlines, count, 1, busy, &mut counts) };
         let mut sum = 0;
         (0..busy).all(|t| {
             sum += u32::from(unsafe { counts[t].assume_init() });
-            sum <= self.0.slots * (t as u32 + 1)
+            sum <= slots * (t as u32 + 1)
         })
     }
 }

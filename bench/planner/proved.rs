@@ -2,15 +2,14 @@
 use super::{mixed, Host, Offer};
 use planner::{raw, Setting};
 
-pub use planner::raw::{Held, Planner, Stream};
+pub use planner::raw::{Held, Planner, Stream, Waiting};
 
 pub fn open(slots: u32, frame: u32, gap: u32) -> Planner {
-    open_at(slots, frame, gap, 0)
+    open_at(Setting { slots, frame, gap, last: 0, messages: false })
 }
 
-pub fn open_at(slots: u32, frame: u32, gap: u32, last: u32) -> Planner {
-    let opened = planner::Planner::open(Setting { slots, frame, gap, last });
-    *opened.expect("a setting in range").as_raw()
+pub fn open_at(setting: Setting) -> Planner {
+    *planner::Planner::open(setting).expect("a setting in range").as_raw()
 }
 
 // Id, period, deadline and release of each stream.
@@ -39,5 +38,15 @@ impl Host for Planner {
     fn remove(&mut self, id: u32) -> u32 {
         // SAFETY: as above.
         unsafe { raw::planner_remove(self, id) }
+    }
+
+    fn send(&mut self, number: u32) -> u32 {
+        // SAFETY: as above.
+        unsafe { raw::planner_send(self, number) }
+    }
+
+    // By hand, so that nothing of it is counted as a call.
+    fn fill_waiting(&mut self) {
+        self.waiting = Waiting { count: 32, numbers: std::array::from_fn(|k| 40_000 + k as u16) };
     }
 }

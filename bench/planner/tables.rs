@@ -44,7 +44,7 @@ pub struct Hosts {
 
 impl Hosts {
     pub fn of(proved: Planner) -> Hosts {
-        let (slots, frame, gap, last, streams) = (proved.slots, proved.frame, proved.gap, proved.last, streams(&proved));
+        let (slots, frame, gap, last, streams) = (proved.slots - proved.messages, proved.frame, proved.gap, proved.last, streams(&proved));
         Hosts {
             proved,
             limit: Limit(proved),
@@ -280,6 +280,14 @@ impl Table {
             if let Some((p, offer)) = self.with_offer(fewer, answer).or_else(crowded) {
                 case(name, &p, Call::Add(offer));
             }
+        }
+        // the same streams with one slot more, which is for messages: each round as before, with messages behind its ids; and the 32nd message
+        if filled.slots < 64 {
+            let mut with_messages = Planner { slots: filled.slots + 1, messages: 1, ..filled };
+            with_messages.fill_waiting();
+            case("round, 32 waiting", &with_messages, Call::FullRound);
+            with_messages.waiting.count = 31;
+            case("send", &with_messages, Call::Send(65_535));
         }
         cases
     }

@@ -54,7 +54,7 @@ static void expect(int right) {
 static void example(void) {
     const uint8_t periods[] = {5, 7, 15};
     expect(planner_remove(&kept, 0) == 5);
-    expect(planner_open(&kept, 2, 6, 6, 0) == 0);
+    expect(planner_open(&kept, 2, 6, 6, 0, 0) == 0);
     expect(planner_remove(&kept, 0) == 14);
     expect(planner_add(&kept, 1, 1, 3, 2) == 0);
     expect(planner_add(&kept, 2, 1, 6, 6) == 0);
@@ -64,6 +64,7 @@ static void example(void) {
     expect(is_round(5, 1, 3));
     expect(is_round(8, 1, 2));
     expect(planner_remove(&kept, 9) == 14);
+    expect(planner_send(&kept, 40000) == 29);
     expect(superframe(periods, sizeof periods) == 105);
 }
 

@@ -17,8 +17,8 @@ int main(void) {
         fprintf(stderr, "the library is of version %u, this host is made for version %d\n", (unsigned)planner_version(), PLANNER_VERSION);
         return 1;
     }
-    /* 2 slots a round, superframe 6, gap 6, as if a round had been held at 0; of a stream: id, first release, period, deadline */
-    if (!went_well("open", planner_open(&kept, 2, 6, 6, 0)) || !went_well("add 1", planner_add(&kept, 1, 1, 3, 2))
+    /* 2 slots a round, superframe 6, gap 6, as if a round had been held at 0, no messages; of a stream: id, first release, period, deadline */
+    if (!went_well("open", planner_open(&kept, 2, 6, 6, 0, 0)) || !went_well("add 1", planner_add(&kept, 1, 1, 3, 2))
         || !went_well("add 2", planner_add(&kept, 2, 1, 6, 6)) || !went_well("add 3", planner_add(&kept, 3, 2, 6, 5))) {
         return 1;
     }

@@ -9,15 +9,24 @@ static struct planner kept = PLANNER_INIT;
 
 /* A stream offered to a planner with no other; now is 1. */
 static uint32_t offered(uint32_t frame, uint32_t id, uint32_t release, uint32_t period) {
-    planner_open(&kept, 1, frame, 1, 0);
+    planner_open(&kept, 1, frame, 1, 0, 0);
     return planner_add(&kept, id, release, period, period);
 }
 
 /* The last of so many streams, offered one after the other. */
 static uint32_t last_offered(uint32_t streams) {
-    uint32_t answer = planner_open(&kept, PLANNER_MOST_SLOTS, 1, 1, 0);
+    uint32_t answer = planner_open(&kept, PLANNER_MOST_SLOTS, 1, 1, 0, 0);
     for (uint32_t id = 1; id <= streams; id++) {
         answer = planner_add(&kept, id, 1, 1, 1);
+    }
+    return answer;
+}
+
+/* The last of so many sends of a number. */
+static uint32_t last_sent(uint32_t number, uint32_t sends) {
+    uint32_t answer = planner_open(&kept, 2, 1, 1, 0, 1);
+    for (uint32_t k = 0; k < sends; k++) {
+        answer = planner_send(&kept, number);
     }
     return answer;
 }
@@ -32,6 +41,13 @@ static uint32_t written(uint32_t start, uint32_t slots, uint32_t n, uint32_t las
     return packet_write(start, slots, ids, n, packet, length);
 }
 
+/* A packet of an id in front of the id 1: a message there is not good. */
+static uint32_t written_in_front(uint32_t id) {
+    const uint16_t ids[] = {(uint16_t)id, 1};
+    uint8_t packet[PACKET_BYTES(2)] = {0};
+    return packet_write(0, 2, ids, 2, packet, sizeof packet);
+}
+
 static uint32_t superframe_of(uint32_t period) {
     const uint8_t periods[] = {(uint8_t)period};
     return superframe_answer(superframe(periods, 1));
@@ -44,17 +60,20 @@ static uint32_t superframe_of(uint32_t period) {
 
 int main(void) {
     const uint8_t longest[] = {240, 7, 9};
-    PRINT(PLANNER_MOST_SLOTS, planner_open(&kept, limit, 1, 1, 0));
-    PRINT(PLANNER_LONGEST_FRAME, planner_open(&kept, 1, limit, 1, 0));
-    PRINT(PLANNER_LONGEST_GAP, planner_open(&kept, 1, 1, limit, 0));
-    PRINT(PLANNER_LAST_START, planner_open(&kept, 1, 1, 1, limit));
+    PRINT(PLANNER_MOST_SLOTS, planner_open(&kept, limit, 1, 1, 0, 0));
+    PRINT(PLANNER_LONGEST_FRAME, planner_open(&kept, 1, limit, 1, 0, 0));
+    PRINT(PLANNER_LONGEST_GAP, planner_open(&kept, 1, 1, limit, 0, 0));
+    PRINT(PLANNER_LAST_START, planner_open(&kept, 1, 1, 1, limit, 0));
     PRINT(PLANNER_LARGEST_ID, offered(1, limit, 1, 1));
     PRINT(PLANNER_PLACES, last_offered(limit));
     PRINT(PLANNER_LONGEST_PERIOD, offered(limit, 1, 1, limit));
     PRINT(PLANNER_FURTHEST_RELEASE, offered(1, 1, 1 + limit, 1));
+    PRINT(PLANNER_LEAST_MESSAGE - 1, last_sent(limit, 1));
+    PRINT(PLANNER_LARGEST_MESSAGE, last_sent(limit, 1));
+    PRINT(PLANNER_MOST_WAITING, last_sent(PLANNER_LEAST_MESSAGE, limit));
     PRINT(PACKET_LAST_START, written(limit, 1, 1, 1, PACKET_MOST_BYTES));
     PRINT(PACKET_MOST_SLOTS, written(0, limit, 0, 0, PACKET_MOST_BYTES));
-    PRINT(PACKET_LARGEST_ID, written(0, 1, 1, limit, PACKET_MOST_BYTES));
+    PRINT(PACKET_LARGEST_ID, written_in_front(limit));
     PRINT(PACKET_MOST_BYTES - 1, written(0, PACKET_MOST_SLOTS, PACKET_MOST_SLOTS, 1000, limit));
     PRINT(SUPERFRAME_LONGEST_PERIOD, superframe_of(limit));
     printf("SUPERFRAME_LONGEST_FRAME %u: the superframe of 240, 7 and 9 is %u\n", SUPERFRAME_LONGEST_FRAME, (unsigned)superframe(longest, 3));

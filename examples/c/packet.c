@@ -38,7 +38,7 @@ static int hold(void) {
 }
 
 int main(void) {
-    int right = planner_open(&kept, 2, 6, 6, 0) == PLANNER_OK && planner_add(&kept, 1, 1, 3, 2) == PLANNER_OK
+    int right = planner_open(&kept, 2, 6, 6, 0, 0) == PLANNER_OK && planner_add(&kept, 1, 1, 3, 2) == PLANNER_OK
         && planner_add(&kept, 2, 1, 6, 6) == PLANNER_OK && planner_add(&kept, 3, 2, 6, 5) == PLANNER_OK;
     right = right && hold() && hold() && hold();
     return right ? 0 : 1;

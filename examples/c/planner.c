@@ -39,13 +39,13 @@ static int is_filed(const struct planner_stream *s) {
  * released at 10, stream 2 at 2 and 8 and next at 13, stream 3 at 5 and next at 8. */
 static int fields_agree(void) {
     const struct planner_stream expected[] = {{1, 3, 2, 10}, {2, 6, 6, 13}, {3, 6, 5, 8}};
-    return kept.slots == 2 && kept.frame == 6 && kept.gap == 6 && kept.last == 8 && kept.table.count == 3
-        && memcmp(kept.table.streams, expected, sizeof expected) == 0 && is_filed(&expected[0]) && is_filed(&expected[1])
-        && is_filed(&expected[2]);
+    return kept.slots == 2 && kept.frame == 6 && kept.gap == 6 && kept.messages == 0 && kept.last == 8 && kept.waiting.count == 0
+        && kept.table.count == 3 && memcmp(kept.table.streams, expected, sizeof expected) == 0 && is_filed(&expected[0])
+        && is_filed(&expected[1]) && is_filed(&expected[2]);
 }
 
 int main(void) {
-    printf("O,%u\n", (unsigned)planner_open(&kept, 2, 6, 6, 0));
+    printf("O,%u\n", (unsigned)planner_open(&kept, 2, 6, 6, 0, 0));
     add(1, 1, 3, 2);
     add(2, 1, 6, 6);
     add(3, 2, 6, 5);

@@ -24,7 +24,8 @@ fn print_read(bytes: &[u8]) -> Result<(), Refusal> {
 }
 
 fn main() -> Result<(), Refusal> {
-    let mut planner = Planner::open(Setting { slots: 2, frame: 6, gap: 6, last: 0 })?;
+    let mut planner =
+        Planner::open(Setting { slots: 2, frame: 6, gap: 6, last: 0, messages: false })?;
     planner.add(Stream { id: 1, release: 1, period: 3, deadline: 2 })?;
     planner.add(Stream { id: 2, release: 1, period: 6, deadline: 6 })?;
     planner.add(Stream { id: 3, release: 2, period: 6, deadline: 5 })?;

@@ -24,7 +24,8 @@ fn hold(planner: &mut Planner) -> Result<(), Refusal> {
 }
 
 fn main() -> Result<(), Refusal> {
-    let mut planner = Planner::open(Setting { slots: 2, frame: 6, gap: 6, last: 0 })?;
+    let mut planner =
+        Planner::open(Setting { slots: 2, frame: 6, gap: 6, last: 0, messages: false })?;
     println!("O,0");
     add(&mut planner, 1, 1, 3, 2);
     add(&mut planner, 2, 1, 6, 6);

@@ -3,7 +3,7 @@
 use planner::Refusal;
 
 fn main() {
-    for number in 1..=28 {
+    for number in 1..=30 {
         if let Some(refusal) = Refusal::from_number(number) {
             println!("{refusal}");
         }

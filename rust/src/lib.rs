@@ -10,8 +10,9 @@
 //! ```
 //! use planner::{packet, Planner, Refusal, Setting, Stream, MOST_SLOTS};
 //!
-//! // two slots a round, superframe 6, gap 6, as if a round had been held at 0
-//! let mut planner = Planner::open(Setting { slots: 2, frame: 6, gap: 6, last: 0 })?;
+//! // two slots a round, superframe 6, gap 6, as if a round had been held at 0, no messages
+//! let setting = Setting { slots: 2, frame: 6, gap: 6, last: 0, messages: false };
+//! let mut planner = Planner::open(setting)?;
 //! planner.add(Stream { id: 1, release: 1, period: 3, deadline: 2 })?;
 //! planner.add(Stream { id: 2, release: 1, period: 6, deadline: 6 })?;
 //! planner.add(Stream { id: 3, release: 2, period: 6, deadline: 5 })?;
@@ -40,13 +41,17 @@
 //!   `docs/ANNEX.md` of the planner's repository.
 //! - **Numbers.** Times and lengths are whole numbers of time units. Any number of 32 bits may be
 //!   passed, and is compared as it is passed (Annex 7.1). No call panics.
+//! - **Messages.** A planner that is opened with them on takes remarks beside the streams
+//!   ([`Planner::send`]), and a round lists them in the slots that its streams leave free. One slot
+//!   of each round is kept for them: the streams have a slot fewer, in every rule and every round
+//!   (Annex 3.16), so that a stream may be refused that fits with messages off.
 //! - **Version.** This crate is for version [`VERSION`] of the library, and a planner is made only
 //!   over a library that says it is of this version ([`check_version`]). Hosts on one bus run the
 //!   same version (Annex 13.8).
 //! - **Rust.** 1.81 or later.
 //! - **The machine.** A 64-bit x86 machine, for which the library is built.
-//! - **Stack.** A round takes some 22 kB, an add or a remove 16 kB, as measured and not proved
-//!   (Annex 13.9; `planner.h` has the figures). Nothing tests that there is as much.
+//! - **Stack.** A round takes some 22 kB, an add or a remove 16 kB, a send 11 kB, as measured and not
+//!   proved (Annex 13.9; `planner.h` has the figures). Nothing tests that there is as much.
 //! - **No heap, no `std`.** The library needs `memcpy` and `memset` as C has them, and nothing else.
 //! - **Where the library is.** `build.rs` looks for `libplanner.a` in the directory that
 //!   `PLANNER_LIB_DIR` names; without it in `../lib`, as in the bundle, then in `../target/lib`. A
@@ -68,11 +73,11 @@ mod superframe;
 mod version;
 
 pub use limits::{FURTHEST_RELEASE, LAST_START, LONGEST_FRAME, LONGEST_GAP, LONGEST_PERIOD};
-pub use limits::{LARGEST_ID, MOST_SLOTS, PLACES};
+pub use limits::{LARGEST_ID, LARGEST_MESSAGE, LEAST_MESSAGE, MOST_SLOTS, MOST_WAITING, PLACES};
 pub use planner::{Planner, Round, Setting, Stream};
 pub use refusal::Refusal;
 pub use superframe::superframe;
 pub use version::{check_version, version};
 
 /// Annex 7.40: the version that this crate is for, the first number of the crate's own.
-pub const VERSION: u32 = 6;
+pub const VERSION: u32 = 7;

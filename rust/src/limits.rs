@@ -3,8 +3,8 @@
 
 use crate::raw;
 
-/// Annex 3.6: the most slots of a round, B, and so the most ids: a buffer of this length is never
-/// too short.
+/// Annex 3.6: the most slots of a round, B, and so the most ids and messages: a buffer of this
+/// length is never too short.
 pub const MOST_SLOTS: usize = 64;
 
 /// Annex 3.6: the longest superframe, F; also the largest value of
@@ -25,6 +25,15 @@ pub const LONGEST_PERIOD: u32 = 240;
 
 /// Annex 3.8: so far after now, which is last + 1, a stream's first packet may be released.
 pub const FURTHEST_RELEASE: u32 = 239;
+
+/// Annex 3.14: the least number of a message, the first above the ids of streams.
+pub const LEAST_MESSAGE: u32 = 32_768;
+
+/// Annex 3.14: the largest number of a message.
+pub const LARGEST_MESSAGE: u32 = 65_535;
+
+/// Annex 3.15: the most messages that wait.
+pub const MOST_WAITING: usize = raw::MOST_WAITING;
 
 /// Annex 1.3: the last start: no round starts later.
 pub const LAST_START: u32 = 1_000_000_000;

@@ -15,6 +15,7 @@
 //! let packet = packet::read(sent)?;
 //! assert_eq!(packet.start(), 2);
 //! assert_eq!(packet.ids().position(|id| id == 2), Some(1));
+//! assert_eq!(packet.messages().len(), 0);
 //! # Ok::<(), planner::Refusal>(())
 //! ```
 //!
@@ -23,15 +24,15 @@
 //! [`check_version`](crate::check_version) once.
 
 use crate::refusal::answered;
-use crate::{raw, Refusal, MOST_SLOTS};
+use crate::{raw, Refusal, LARGEST_ID, MOST_SLOTS};
 
-/// Annex 10.2, 10.3: the bytes of the longest schedule packet, of [`MOST_SLOTS`] ids.
+/// Annex 10.2, 10.3: the bytes of the longest schedule packet, of [`MOST_SLOTS`] ids and messages.
 pub const MOST_BYTES: usize = length(MOST_SLOTS);
 
 /// Annex 10.2: where the ids begin.
 const IDS_FROM: usize = 6;
 
-/// Annex 10.2: the bytes of a schedule packet of n ids.
+/// Annex 10.2: the bytes of a schedule packet of n ids and messages.
 const fn length(n: usize) -> usize {
     IDS_FROM + 2 * n
 }
@@ -51,9 +52,9 @@ pub fn version() -> u32 {
 /// # Errors
 ///
 /// 27 if the values are not good (Annex 10.3): start is above 1,000,000,000, slots is not 1 to 64,
-/// there are more ids than slots, an id is not 1 to 32,767 or stands twice; then 28 if the buffer is
-/// shorter than the packet, which one of [`MOST_BYTES`] never is. Refused, it leaves the whole
-/// buffer.
+/// there are more ids than slots, or the ids are not first those of streams, 1 to 32,767 and none
+/// twice, and then messages, 32,768 to 65,535, which may repeat; then 28 if the buffer is shorter
+/// than the packet, which one of [`MOST_BYTES`] never is. Refused, it leaves the whole buffer.
 #[inline]
 pub fn write<'a>(
     start: u32,
@@ -104,13 +105,33 @@ impl<'a> Packet<'a> {
         self.start
     }
 
-    /// Annex 10.1: B, the slots of a round; there may be fewer ids.
+    /// Annex 10.1: B, the slots of a round; there may be fewer ids and messages.
     pub fn slots(&self) -> u32 {
         self.slots
     }
 
-    /// Annex 10.8: the ids in the order of the round's slots.
+    /// Annex 10.8: the ids in the order of the round's slots: those of streams, then messages.
     pub fn ids(&self) -> impl ExactSizeIterator<Item = u16> + Clone + 'a {
-        self.ids.chunks_exact(2).map(|id| u16::from_be_bytes([id[0], id[1]]))
+        numbers(self.ids)
     }
+
+    /// Annex 10.3: the ids of the streams that send, in the order of the round's slots.
+    pub fn streams(&self) -> impl ExactSizeIterator<Item = u16> + Clone + 'a {
+        numbers(self.parts().0)
+    }
+
+    /// Annex 10.3: the messages, in the order of the round's slots.
+    pub fn messages(&self) -> impl ExactSizeIterator<Item = u16> + Clone + 'a {
+        numbers(self.parts().1)
+    }
+
+    fn parts(&self) -> (&'a [u8], &'a [u8]) {
+        let streams = self.ids().take_while(|id| u32::from(*id) <= LARGEST_ID).count();
+        self.ids.split_at(2 * streams)
+    }
+}
+
+/// Annex 10.2: two bytes a number, the most significant first.
+fn numbers<'a>(bytes: &'a [u8]) -> impl ExactSizeIterator<Item = u16> + Clone + 'a {
+    bytes.chunks_exact(2).map(|id| u16::from_be_bytes([id[0], id[1]]))
 }

@@ -2,7 +2,7 @@
 
 use crate::raw::{self, BYTES};
 use crate::refusal::answered;
-use crate::{check_version, Refusal};
+use crate::{check_version, Refusal, LARGEST_ID};
 use core::fmt;
 
 // for the links of the documentation
@@ -13,7 +13,7 @@ use crate::limits::*;
 /// them.
 #[derive(Clone, Copy, Debug, PartialEq, Eq, Hash)]
 pub struct Setting {
-    /// B, the slots of a round, 1 to 64 ([`MOST_SLOTS`]).
+    /// B, the slots of a round, 1 to 64 ([`MOST_SLOTS`]), and above 1 with messages on.
     pub slots: u32,
     /// F, the superframe, 1 to 5,040 ([`LONGEST_FRAME`]); every period has to divide it.
     pub frame: u32,
@@ -22,6 +22,9 @@ pub struct Setting {
     /// T, the moment that is taken for the start of the last round, 0 to 1,000,000,000
     /// ([`LAST_START`]).
     pub last: u32,
+    /// Whether messages are on: then a round keeps one slot for them, and the streams have the
+    /// others (Annex 3.16).
+    pub messages: bool,
 }
 
 /// Annex 2.1: a stream, as it is added and as a planner keeps it. Any numbers may stand here;
@@ -48,12 +51,28 @@ pub struct Stream {
 pub struct Round<'a> {
     /// The round's start. It ends one unit later.
     pub start: u32,
-    /// The ids in the order of the slots, as many as there are: the part of the buffer that the
-    /// round filled.
+    /// What stands in the slots, in their order, as much as there is: the ids of streams, then
+    /// messages. It is the part of the buffer that the round filled, and what its packet lists.
     pub ids: &'a [u16],
 }
 
-/// Annex 3.1: a planner, in the caller's memory: 3,864 bytes, and nothing on a heap.
+impl<'a> Round<'a> {
+    /// Annex 7.29: the ids of the streams that send, in the order of the slots.
+    pub fn streams(&self) -> &'a [u16] {
+        self.parts().0
+    }
+
+    /// Annex 7.46: the messages, in the order in which they were sent.
+    pub fn messages(&self) -> &'a [u16] {
+        self.parts().1
+    }
+
+    fn parts(&self) -> (&'a [u16], &'a [u16]) {
+        self.ids.split_at(self.ids.partition_point(|id| u32::from(*id) <= LARGEST_ID))
+    }
+}
+
+/// Annex 3.1: a planner, in the caller's memory: 3,936 bytes, and nothing on a heap.
 ///
 /// There is no `==`: two planners of equal content may differ in bytes that no answer depends on
 /// (Annex 3.13). Whether nothing at all has changed is a comparison of [`Planner::as_bytes`].
@@ -66,19 +85,22 @@ impl Planner {
     /// Annex 7.38: the bytes of a planner.
     pub const BYTES: usize = BYTES;
 
-    /// Annex 7.5 to 7.9: a planner with this setting and no stream.
+    /// Annex 7.5 to 7.9: a planner with this setting, no stream and nothing waiting.
     ///
     /// # Errors
     ///
-    /// [`Refusal::OtherVersion`] ([`check_version`]); then 1 unless slots is 1 to 64, 2 unless frame
-    /// is 1 to 5,040, 3 unless gap is 1 to 255, 4 if last is above 1,000,000,000.
+    /// [`Refusal::OtherVersion`] ([`check_version`]); then 1 unless slots is 1 to 64, and above 1
+    /// with messages on; 2 unless frame is 1 to 5,040; 3 unless gap is 1 to 255; 4 if last is above
+    /// 1,000,000,000.
     pub fn open(setting: Setting) -> Result<Planner, Refusal> {
         check_version()?;
-        let Setting { slots, frame, gap, last } = setting;
+        let Setting { slots, frame, gap, last, messages } = setting;
         let mut raw = raw::Planner::ZEROS;
         // SAFETY: Annex 7.39: a planner of our own, written before it is lent, to open too, which
         // nobody else reads or writes.
-        answered(unsafe { raw::planner_open(&mut raw, slots, frame, gap, last) })?;
+        answered(unsafe {
+            raw::planner_open(&mut raw, slots, frame, gap, last, u32::from(messages))
+        })?;
         Ok(Planner { raw })
     }
 
@@ -108,11 +130,45 @@ impl Planner {
         answered(unsafe { raw::planner_remove(&mut self.raw, id) })
     }
 
-    /// Annex 7.24 to 7.33: holds the next round, and writes its ids to the front of the buffer,
-    /// which needs as many elements as a round has slots; [`MOST_SLOTS`] are always enough. The
-    /// later ones are untouched.
+    /// Annex 7.41 to 7.45: has a message wait behind those that wait, for a round with a slot free.
+    /// The same number may wait more than once.
     ///
-    /// With no stream the round is held at last + 1 + gap, with no id.
+    /// Annex 12.29: with q others ahead it leaves no later than the (q + 1)-th round that is held.
+    ///
+    /// # Errors
+    ///
+    /// 5 if the planner is not sound; then 29 unless the number is 32,768 to 65,535
+    /// ([`LEAST_MESSAGE`], [`LARGEST_MESSAGE`]) and messages are on; then 30 with 32 messages
+    /// waiting ([`MOST_WAITING`]).
+    ///
+    /// ```
+    /// use planner::{Planner, Setting, Stream};
+    ///
+    /// // three slots a round, of which the streams have two
+    /// let setting = Setting { slots: 3, frame: 6, gap: 6, last: 0, messages: true };
+    /// let mut planner = Planner::open(setting)?;
+    /// planner.add(Stream { id: 1, release: 1, period: 3, deadline: 2 })?;
+    ///
+    /// // a remark, whose meaning is the crew's own, goes with the next round
+    /// planner.send(40_000)?;
+    /// let mut buffer = [0; 3];
+    /// let round = planner.round(&mut buffer)?;
+    /// assert_eq!((round.start, round.ids), (2, &[1, 40_000][..]));
+    /// assert_eq!((round.streams(), round.messages()), (&[1][..], &[40_000][..]));
+    /// # Ok::<(), planner::Refusal>(())
+    /// ```
+    #[inline]
+    pub fn send(&mut self, number: u32) -> Result<(), Refusal> {
+        // SAFETY: Annex 7.39: a planner whose every byte has a value, exclusively borrowed.
+        answered(unsafe { raw::planner_send(&mut self.raw, number) })
+    }
+
+    /// Annex 7.24 to 7.33: holds the next round, and writes the ids of its streams, then the
+    /// messages that fit in the slots still free (Annex 7.46), to the front of the buffer, which
+    /// needs as many elements as a round has slots; [`MOST_SLOTS`] are always enough. The later ones
+    /// are untouched.
+    ///
+    /// With no stream the round is held at last + 1 + gap, with no id; waiting messages ride in it.
     ///
     /// # Errors
     ///
@@ -148,6 +204,12 @@ impl Planner {
         self.raw.gap
     }
 
+    /// Annex 3.1: whether messages are on. (Of a planner that is not sound, whether the number that
+    /// says so is other than 0.)
+    pub fn messages(&self) -> bool {
+        self.raw.messages != 0
+    }
+
     /// Annex 3.1: L, the start of the last round.
     pub fn last(&self) -> u32 {
         self.raw.last
@@ -156,6 +218,13 @@ impl Planner {
     /// Annex 3.4: the end of the last round, last + 1.
     pub fn now(&self) -> u32 {
         self.raw.last.saturating_add(1)
+    }
+
+    /// Annex 3.15: the waiting messages, in the order in which they were sent. (Of a planner that
+    /// is not sound, as many of its 32 places as its count says.)
+    pub fn waiting(&self) -> &[u16] {
+        let all = &self.raw.waiting.numbers;
+        all.get(..self.raw.waiting.count as usize).unwrap_or(all)
     }
 
     /// Annex 3.2, 3.3: the streams by ascending id, each with the release of its first unserved
@@ -175,8 +244,8 @@ impl Planner {
 /// A host that takes over from another of the same kind gets a planner's bytes, whole (Annex 7.38).
 ///
 /// Any bytes may be handed in. That is safe, since no byte of a planner is padding and every bit
-/// pattern is a value, and since each of add, remove and round tests the whole planner first, as it
-/// does anyway, and refuses one that is not sound with 5. So `remove(0)` tests a planner and
+/// pattern is a value, and since each of add, remove, send and round tests the whole planner first,
+/// as it does anyway, and refuses one that is not sound with 5. So `remove(0)` tests a planner and
 /// changes nothing, as no stream has id 0: it is refused with 5, and of a sound planner with 14
 /// (Annex 7.22). 5 is no checksum: a planner that was damaged and is still sound is used as it
 /// stands, and who has to find every damage keeps a checksum beside the bytes (Annex 13.7).
@@ -212,14 +281,16 @@ impl Planner {
     }
 }
 
-/// The four numbers and how many streams there are.
+/// The numbers, how many messages wait and how many streams there are.
 impl fmt::Debug for Planner {
     fn fmt(&self, f: &mut fmt::Formatter<'_>) -> fmt::Result {
         f.debug_struct("Planner")
             .field("slots", &self.slots())
             .field("frame", &self.frame())
             .field("gap", &self.gap())
+            .field("messages", &self.messages())
             .field("last", &self.last())
+            .field("waiting", &self.waiting().len())
             .field("streams", &self.streams().len())
             .finish_non_exhaustive()
     }

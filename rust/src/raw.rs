@@ -22,6 +22,9 @@ pub const PLACES: usize = 64;
 /// Annex 8.6: the nodes of a queue, its places and the nodes of its 480 buckets.
 pub const NODES: usize = 544;
 
+/// Annex 3.15: the places of a planner for messages that wait.
+pub const MOST_WAITING: usize = 32;
+
 /// Annex 7.38: the bytes of a planner.
 pub const BYTES: usize = size_of::<Planner>();
 
@@ -65,6 +68,17 @@ pub struct Queue {
     pub releases: [u32; PLACES],
 }
 
+/// Annex 3.15: the waiting messages are those in the first `count` places, in the order in which
+/// they were sent.
+#[repr(C)]
+#[derive(Clone, Copy, Debug, PartialEq, Eq)]
+pub struct Waiting {
+    /// How many messages wait; a planner with more than 32 is not sound.
+    pub count: u32,
+    /// The places; no answer depends on those from `count` on.
+    pub numbers: [u16; MOST_WAITING],
+}
+
 /// Annex 3.1, 3.5: a planner. No byte of it is padding, and every bit pattern is a value.
 #[repr(C)]
 #[derive(Clone, Copy, Debug, PartialEq, Eq)]
@@ -75,15 +89,20 @@ pub struct Planner {
     pub frame: u32,
     /// G, the gap.
     pub gap: u32,
+    /// 1 with messages on, 0 with them off; a planner with another number is not sound.
+    pub messages: u32,
     /// L, the start of the last round.
     pub last: u32,
+    /// The waiting messages.
+    pub waiting: Waiting,
     /// The streams.
     pub table: Table,
     /// The queue that files them.
     pub queue: Queue,
 }
 
-/// Annex 7.28, 7.31: what a round answers: its start and the count of ids, both 0 if refused.
+/// Annex 7.28, 7.31: what a round answers: its start and the count of ids and messages together,
+/// both 0 if refused.
 #[repr(C)]
 #[derive(Clone, Copy, Debug, PartialEq, Eq)]
 pub struct Held {
@@ -91,7 +110,7 @@ pub struct Held {
     pub answer: u32,
     /// The start.
     pub start: u32,
-    /// How many ids stand at the buffer's front.
+    /// How many numbers stand at the buffer's front, ids and then messages.
     pub n: u32,
 }
 
@@ -105,7 +124,7 @@ pub struct Header {
     pub start: u32,
     /// B, the slots of a round.
     pub slots: u32,
-    /// How many ids there are.
+    /// How many numbers there are, ids and then messages.
     pub n: u32,
 }
 
@@ -140,10 +159,13 @@ const _: () = {
     assert!(offset_of!(Queue, ids) == 0 && offset_of!(Queue, keys) == 128);
     assert!(offset_of!(Queue, next) == 384 && offset_of!(Queue, prev) == 1472);
     assert!(offset_of!(Queue, releases) == 2560);
-    assert!(size_of::<Planner>() == 3864 && align_of::<Planner>() == 8);
+    assert!(size_of::<Waiting>() == 68);
+    assert!(offset_of!(Waiting, count) == 0 && offset_of!(Waiting, numbers) == 4);
+    assert!(size_of::<Planner>() == 3936 && align_of::<Planner>() == 8);
     assert!(offset_of!(Planner, slots) == 0 && offset_of!(Planner, frame) == 4);
-    assert!(offset_of!(Planner, gap) == 8 && offset_of!(Planner, last) == 12);
-    assert!(offset_of!(Planner, table) == 16 && offset_of!(Planner, queue) == 1048);
+    assert!(offset_of!(Planner, gap) == 8 && offset_of!(Planner, messages) == 12);
+    assert!(offset_of!(Planner, last) == 16 && offset_of!(Planner, waiting) == 20);
+    assert!(offset_of!(Planner, table) == 88 && offset_of!(Planner, queue) == 1120);
     assert!(size_of::<Held>() == 12 && offset_of!(Held, answer) == 0);
     assert!(offset_of!(Held, start) == 4 && offset_of!(Held, n) == 8);
     assert!(size_of::<Header>() == 16 && offset_of!(Header, answer) == 0);
@@ -157,18 +179,31 @@ const _: () = {
     assert!(size_of::<Table>() == size_of::<usize>() + PLACES * size_of::<Stream>());
     let (halves, words) = (PLACES + 2 * NODES, 2 * PLACES);
     assert!(size_of::<Queue>() == halves * size_of::<u16>() + words * size_of::<u32>());
-    assert!(size_of::<Planner>() == 4 * size_of::<u32>() + size_of::<Table>() + size_of::<Queue>());
+    assert!(size_of::<Waiting>() == size_of::<u32>() + MOST_WAITING * size_of::<u16>());
+    let lists = size_of::<Waiting>() + size_of::<Table>() + size_of::<Queue>();
+    assert!(size_of::<Planner>() == 5 * size_of::<u32>() + lists);
 };
 
 extern "C" {
-    /// Annex 7.5 to 7.9: opens the planner, whatever its content; refuses 1 to 4.
-    pub fn planner_open(p: *mut Planner, slots: u32, frame: u32, gap: u32, last: u32) -> u32;
+    /// Annex 7.5 to 7.9: opens the planner, whatever its content, with messages off for 0 and on
+    /// for any other number; refuses 1 to 4.
+    pub fn planner_open(
+        p: *mut Planner,
+        slots: u32,
+        frame: u32,
+        gap: u32,
+        last: u32,
+        messages: u32,
+    ) -> u32;
 
     /// Annex 7.10 to 7.20: adds a stream; refuses 5 to 13.
     pub fn planner_add(p: *mut Planner, id: u32, release: u32, period: u32, deadline: u32) -> u32;
 
     /// Annex 7.22, 7.23: takes a stream out; refuses 5 and 14.
     pub fn planner_remove(p: *mut Planner, id: u32) -> u32;
+
+    /// Annex 7.41 to 7.45: has a message wait; refuses 5, 29 and 30.
+    pub fn planner_send(p: *mut Planner, number: u32) -> u32;
 
     /// Annex 7.24 to 7.33: holds the next round; refuses 5, 16 and 17.
     pub fn planner_round(p: *mut Planner, buffer: *mut u16, length: usize) -> Held;

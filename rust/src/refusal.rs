@@ -11,7 +11,7 @@ use core::fmt;
 #[non_exhaustive]
 #[repr(u32)]
 pub enum Refusal {
-    /// Annex 7.6: `slots`, B, is not 1 to 64.
+    /// Annex 7.6: `slots`, B, is not 1 to 64, or is 1 with messages on.
     BadSlots = 1,
     /// Annex 7.6: `frame`, F, is not 1 to 5,040.
     BadFrame = 2,
@@ -19,7 +19,7 @@ pub enum Refusal {
     BadGap = 3,
     /// Annex 7.6: `last`, T, is above 1,000,000,000.
     BadLast = 4,
-    /// Annex 7.11, 7.22 and 7.25: the planner is not sound. It came from bytes or fields
+    /// Annex 7.11, 7.22, 7.25 and 7.42: the planner is not sound. It came from bytes or fields
     /// (`from_bytes`, `from_raw`), and these were damaged or no planner's.
     NotSound = 5,
     /// Annex 7.12: the id is not 1 to 32,767.
@@ -54,6 +54,10 @@ pub enum Refusal {
     BadValues = 27,
     /// Annex 10.4: the buffer is shorter than the packet.
     ShortPacketBuffer = 28,
+    /// Annex 7.43: the number is not 32,768 to 65,535, or messages are off.
+    BadMessage = 29,
+    /// Annex 7.44: 32 messages are waiting.
+    WaitingFull = 30,
     /// Annex 7.40, 10.10: the library is of another version than this crate, and nothing else was
     /// asked of it; or it gave a number that no call of this version gives. No answer of the annex.
     OtherVersion = u32::MAX,
@@ -62,8 +66,8 @@ pub enum Refusal {
 use Refusal::*;
 
 /// Those with a number of the annex, each with that number and the words of its table 1.
-const TABLE_1: [(Refusal, &str); 21] = [
-    (BadSlots, "1: B, the slots, is not 1 to 64"),
+const TABLE_1: [(Refusal, &str); 23] = [
+    (BadSlots, "1: B, the slots, is not 1 to 64, or is 1 with messages on"),
     (BadFrame, "2: F, the superframe, is not 1 to 5,040"),
     (BadGap, "3: G, the gap, is not 1 to 255"),
     (BadLast, "4: T, the last start, is above 1,000,000,000"),
@@ -84,6 +88,8 @@ const TABLE_1: [(Refusal, &str); 21] = [
     (WrongLength, "26: the length is under 6, or other than 6 + 2×n"),
     (BadValues, "27: the values are not good"),
     (ShortPacketBuffer, "28: the buffer is shorter than the packet"),
+    (BadMessage, "29: the number is not 32,768 to 65,535, or messages are off"),
+    (WaitingFull, "30: 32 messages are waiting"),
 ];
 
 impl Refusal {

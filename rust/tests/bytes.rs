@@ -2,29 +2,38 @@
 
 use planner::{raw, Planner, Refusal, Setting, Stream};
 
-// The planner of Annex C.1 after its first round.
+// The planner of Annex C.1 with messages on, of which three are sent, after its first round: a slot
+// more, which is for messages.
 fn kept() -> Planner {
-    let mut planner = Planner::open(Setting { slots: 2, frame: 6, gap: 6, last: 0 }).unwrap();
+    let setting = Setting { slots: 3, frame: 6, gap: 6, last: 0, messages: true };
+    let mut planner = Planner::open(setting).unwrap();
     planner.add(Stream { id: 1, release: 1, period: 3, deadline: 2 }).unwrap();
     planner.add(Stream { id: 2, release: 1, period: 6, deadline: 6 }).unwrap();
     planner.add(Stream { id: 3, release: 2, period: 6, deadline: 5 }).unwrap();
-    assert_eq!(planner.round(&mut [0; 2]).unwrap().ids, [1, 2]);
+    for message in [40_000, 40_000, 50_000] {
+        planner.send(message).unwrap();
+    }
+    assert_eq!(planner.round(&mut [0; 3]).unwrap().ids, [1, 2, 40_000]);
     planner
 }
 
-// Annex 7.38: 3,864 bytes, numbers in the machine's own order; the records as 5.6 leaves them.
+// Annex 7.38: 3,936 bytes, numbers in the machine's own order; the records as 5.6 leaves them.
 #[test]
 fn the_layout() {
-    assert_eq!(Planner::BYTES, 3_864);
+    assert_eq!(Planner::BYTES, 3_936);
     let planner = kept();
     let bytes = planner.as_bytes();
     let word = |at: usize| u32::from_ne_bytes(bytes[at..at + 4].try_into().unwrap());
-    assert_eq!([0, 4, 8, 12].map(word), [2, 6, 6, 2]);
-    assert_eq!(usize::from_ne_bytes(bytes[16..24].try_into().unwrap()), 3);
-    let record = |k: usize| [0, 4, 8, 12].map(|field| word(24 + 16 * k + field));
+    assert_eq!([0, 4, 8, 12, 16].map(word), [3, 6, 6, 1, 2]);
+    assert_eq!(word(20), 2);
+    let message = |k: usize| u16::from_ne_bytes(bytes[24 + 2 * k..][..2].try_into().unwrap());
+    assert_eq!([0, 1].map(message), [40_000, 50_000]);
+    assert_eq!(usize::from_ne_bytes(bytes[88..96].try_into().unwrap()), 3);
+    let record = |k: usize| [0, 4, 8, 12].map(|field| word(96 + 16 * k + field));
     assert_eq!([0, 1, 2].map(record), [[1, 3, 2, 4], [2, 6, 6, 7], [3, 6, 5, 2]]);
     let raw = planner.as_raw();
     assert_eq!((raw.table.count, raw.table.streams[2].release), (3, 2));
+    assert_eq!((raw.messages, raw.waiting.count, raw.waiting.numbers[1]), (1, 2, 50_000));
     // Annex 3.11: an entry for each, under its due time and release
     for stream in planner.streams() {
         let place = raw.queue.ids.iter().position(|id| u32::from(*id) == stream.id).unwrap();
@@ -41,11 +50,11 @@ fn another_host_takes_over() {
     let bytes: &[u8; Planner::BYTES] = handed.as_slice().try_into().unwrap();
     let mut other = Planner::from_bytes(bytes).unwrap();
     assert!(other.as_bytes() == one.as_bytes());
-    for (start, ids) in [(5, [1, 3]), (8, [1, 2])] {
+    for (start, ids) in [(5, &[1, 3, 40_000][..]), (8, &[1, 2, 50_000]), (11, &[1, 3])] {
         for planner in [&mut one, &mut other] {
-            let mut buffer = [0; 2];
+            let mut buffer = [0; 3];
             let round = planner.round(&mut buffer).unwrap();
-            assert_eq!((round.start, round.ids), (start, &ids[..]));
+            assert_eq!((round.start, round.ids), (start, ids));
         }
     }
     assert!(other.as_bytes() == one.as_bytes());
@@ -62,23 +71,35 @@ fn is_refused_with_5(raw: raw::Planner) {
         Err(Refusal::NotSound)
     );
     assert_eq!(planner.remove(0), Err(Refusal::NotSound));
+    for number in [0, 40_000] {
+        assert_eq!(planner.send(number), Err(Refusal::NotSound));
+    }
     assert_eq!(buffer, [7; 64]);
     assert!(*planner.as_raw() == raw);
     // nothing of it panics
-    assert!(planner.streams().len() <= 64);
+    assert!(planner.streams().len() <= 64 && planner.waiting().len() <= 32);
     let _ = (planner.now(), format!("{planner:?}"));
 }
 
 #[test]
 fn a_damaged_planner_is_refused() {
     let sound = *kept().as_raw();
-    let damages: [fn(&mut raw::Planner); 14] = [
+    let damages: [fn(&mut raw::Planner); 23] = [
         |p| p.slots = 0,
         |p| p.slots = 65,
+        |p| p.slots = 1,
+        |p| p.messages = 2,
+        |p| p.messages = u32::MAX,
+        |p| p.messages = 0,
         |p| p.frame = 5_041,
         |p| p.frame = 4,
         |p| p.gap = 256,
         |p| p.last = u32::MAX,
+        |p| p.waiting = raw::Waiting { count: 33, numbers: [40_000; 32] },
+        |p| p.waiting = raw::Waiting { count: 40, numbers: [40_000; 32] },
+        |p| p.waiting.count = u32::MAX,
+        |p| p.waiting.numbers[0] = 32_767,
+        |p| p.waiting = raw::Waiting { count: 3, numbers: [0; 32] },
         |p| p.table.count = 65,
         |p| p.table.count = usize::MAX,
         |p| p.table.count = 2,
@@ -95,7 +116,23 @@ fn a_damaged_planner_is_refused() {
     }
     assert_eq!(Refusal::NotSound.number(), 5);
     let mut whole = Planner::from_raw(sound).unwrap();
-    assert_eq!(whole.round(&mut [0; 2]).unwrap().start, 5);
+    assert_eq!(whole.round(&mut [0; 3]).unwrap().start, 5);
+}
+
+// Annex 3.17: alone, with no stream: a slot too few for messages, and one that waits with them off.
+#[test]
+fn messages_damaged_with_no_stream() {
+    let setting = Setting { slots: 2, frame: 6, gap: 6, last: 0, messages: true };
+    let mut raw = *Planner::open(setting).unwrap().as_raw();
+    raw.slots = 1;
+    is_refused_with_5(raw);
+    let mut raw = *Planner::open(Setting { messages: false, ..setting }).unwrap().as_raw();
+    raw.waiting.count = 1;
+    raw.waiting.numbers[0] = 40_000;
+    is_refused_with_5(raw);
+    // in a place that is free it is nobody's
+    raw.waiting.count = 0;
+    Planner::from_raw(raw).unwrap().round(&mut [0; 2]).unwrap();
 }
 
 // Any bytes are allowed: all of one value, and a planner's moved on by one.
@@ -114,8 +151,12 @@ fn bytes_of_no_planner_are_refused() {
 fn a_damage_that_leaves_it_sound_is_not_found() {
     let mut raw = *kept().as_raw();
     raw.table.streams[63].id = 99;
+    raw.waiting.numbers[31] = 99;
+    raw.waiting.numbers[0] = 60_000;
     raw.gap = 1;
     let mut planner = Planner::from_raw(raw).unwrap();
-    // the cap is 2 + 1 + 1
-    assert_eq!(planner.round(&mut [0; 2]).unwrap().start, 4);
+    // the cap is 2 + 1 + 1; of the streams 1 and 3 are released by then
+    let mut buffer = [0; 3];
+    let round = planner.round(&mut buffer).unwrap();
+    assert_eq!((round.start, round.ids), (4, &[1, 3, 60_000][..]));
 }

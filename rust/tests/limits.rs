@@ -4,7 +4,7 @@
 use planner::*;
 
 // What stands in a setting or a stream beside the limit that is asked for; now is 1.
-const LEAST: Setting = Setting { slots: 1, frame: 1, gap: 1, last: 0 };
+const LEAST: Setting = Setting { slots: 1, frame: 1, gap: 1, last: 0, messages: false };
 const NEW: Stream = Stream { id: 1, release: 1, period: 1, deadline: 1 };
 
 fn number<T>(answer: Result<T, Refusal>) -> u32 {
@@ -45,6 +45,19 @@ fn limits_of_a_stream() {
     asked(FURTHEST_RELEASE, 239, 11, |after| offered(1, Stream { release: 1 + after, ..NEW }));
 }
 
+// Annex 3.14, 3.15, 7.43 and 7.44.
+#[test]
+fn limits_of_messages() {
+    let last_sent = |message, sends| {
+        let mut planner = Planner::open(Setting { slots: 2, messages: true, ..LEAST }).unwrap();
+        (0..sends).map(|_| number(planner.send(message))).last().unwrap()
+    };
+    assert_eq!((LEAST_MESSAGE, LARGEST_ID), (32_768, 32_767));
+    assert_eq!((last_sent(LEAST_MESSAGE - 1, 1), last_sent(LEAST_MESSAGE, 1)), (29, 0));
+    asked(LARGEST_MESSAGE, 65_535, 29, |message| last_sent(message, 1));
+    asked(MOST_WAITING as u32, 32, 30, |sends| last_sent(LEAST_MESSAGE, sends));
+}
+
 // Annex 1.3, 7.27: a round at the last start is held, and none later; the gap is 1, so that with no
 // stream the start is last + 2.
 #[test]
@@ -72,7 +85,8 @@ fn limits_of_a_packet() {
     };
     asked(LAST_START, 1_000_000_000, 27, |start| written(start, 1, &[], 6));
     asked(MOST_SLOTS as u32, 64, 27, |slots| written(0, slots, &[], 6));
-    asked(LARGEST_ID, 32_767, 27, |id| written(0, 1, &[id as u16], 8));
+    // one more is a message, which stands in front of no stream
+    asked(LARGEST_ID, 32_767, 27, |id| written(0, 2, &[id as u16, 1], 10));
     let ids: Vec<u16> = (1..=64).collect();
     let answers = [133, packet::MOST_BYTES].map(|room| written(0, 64, &ids, room));
     assert_eq!((packet::MOST_BYTES, answers), (134, [28, 0]));

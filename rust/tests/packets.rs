@@ -47,6 +47,33 @@ fn good_packets() {
     assert_eq!(said(&full), Ok((16_909_060, 64, ids)));
 }
 
+// Annex 10.3: messages stand behind the ids of streams, repeats included; B ids of streams are
+// good, since a packet does not say whether messages are on.
+#[test]
+fn packets_with_messages() {
+    let bytes = [0, 0, 0, 2, 3, 3, 0, 1, 0x9c, 0x40, 0x9c, 0x40];
+    assert_eq!(written(2, 3, &[1, 40_000, 40_000], 12), Ok(bytes.to_vec()));
+    let packet = read(&bytes).unwrap();
+    assert_eq!(packet.streams().collect::<Vec<u16>>(), [1]);
+    assert_eq!(packet.messages().collect::<Vec<u16>>(), [40_000, 40_000]);
+    for (slots, ids) in [
+        (1, &[65_535][..]),
+        (1, &[32_768]),
+        (2, &[32_767, 32_768]),
+        (3, &[65_535, 32_768, 65_535]),
+        (3, &[1, 2, 3]),
+        (64, &[50_000; 64]),
+    ] {
+        let bytes = written(7, slots, ids, MOST_BYTES).unwrap();
+        assert_eq!(said(&bytes), Ok((7, slots, ids.to_vec())));
+        let packet = read(&bytes).unwrap();
+        let parts: Vec<u16> = packet.streams().chain(packet.messages()).collect();
+        assert_eq!(parts, ids);
+        assert!(packet.streams().all(|id| id <= 32_767) && packet.messages().all(|m| m >= 32_768));
+        assert_eq!(packet.streams().len() + packet.messages().len(), ids.len());
+    }
+}
+
 // Annex 10.4: 27 before 28; B and n are compared as they are passed.
 #[test]
 fn a_write_is_refused() {
@@ -57,9 +84,15 @@ fn a_write_is_refused() {
     }
     assert_eq!(refused(2, 1, &[1, 2], 10), 27);
     assert_eq!(refused(2, 64, &(1..=256).collect::<Vec<u16>>(), 1_000), 27);
-    for id in [0, 32_768, 65_535] {
+    for id in [0, 1] {
         assert_eq!(refused(2, 2, &[1, id], 10), 27);
     }
+    // a stream behind a message, 0 too; a stream twice with a message between
+    for ids in [&[32_768, 1][..], &[65_535, 1], &[40_000, 0], &[1, 40_000, 2], &[1, 40_000, 1]] {
+        assert_eq!(refused(2, 3, ids, 12), 27, "{ids:?}");
+    }
+    // messages count in n too
+    assert_eq!(refused(2, 2, &[1, 40_000, 40_000], 12), 27);
     assert_eq!(refused(2, 3, &[1, 2, 1], 12), 27);
     assert_eq!(refused(2, 2, &[1, 1], 0), 27);
     for room in [0, 6, 9] {
@@ -89,6 +122,9 @@ fn a_read_is_refused() {
         &[0, 0, 0, 2, 2, 2, 0, 1, 0, 0],
         &[0, 0, 0, 2, 2, 2, 0x80, 0, 0, 2],
         &[0, 0, 0, 2, 3, 3, 0, 1, 0, 2, 0, 1],
+        &[0, 0, 0, 2, 3, 3, 0x9c, 0x40, 0x9c, 0x40, 0, 0],
+        &[0, 0, 0, 2, 3, 3, 0, 1, 0x9c, 0x40, 0, 2],
+        &[0, 0, 0, 2, 2, 3, 0, 1, 0x9c, 0x40, 0x9c, 0x40],
     ] {
         assert_eq!(said(bytes), Err(27), "{bytes:?}");
     }

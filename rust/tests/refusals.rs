@@ -3,7 +3,7 @@
 
 use planner::{Planner, Refusal, Setting, Stream};
 
-const GOOD: Setting = Setting { slots: 2, frame: 12, gap: 9, last: 100 };
+const GOOD: Setting = Setting { slots: 2, frame: 12, gap: 9, last: 100, messages: false };
 const NEW: Stream = Stream { id: 7, release: 101, period: 12, deadline: 12 };
 
 // Annex 7.6: both ends of each range, and one beyond.
@@ -21,12 +21,22 @@ fn open_refuses_1_to_4() {
     }
     assert_eq!(opened(Setting { last: 1_000_000_001, ..GOOD }), Err(4));
     for (slots, frame, gap, last) in [(1, 1, 1, 0), (64, 5_040, 255, 1_000_000_000)] {
-        assert_eq!(opened(Setting { slots, frame, gap, last }), Ok(()));
+        assert_eq!(opened(Setting { slots, frame, gap, last, messages: false }), Ok(()));
     }
     // the first that applies
-    assert_eq!(opened(Setting { slots: 0, frame: 0, gap: 0, last: u32::MAX }), Err(1));
+    assert_eq!(opened(Setting { slots: 0, frame: 0, gap: 0, last: u32::MAX, ..GOOD }), Err(1));
     assert_eq!(opened(Setting { frame: 0, gap: 0, last: u32::MAX, ..GOOD }), Err(2));
     assert_eq!(opened(Setting { gap: 0, last: u32::MAX, ..GOOD }), Err(3));
+    // with messages on B is above 1; 1 comes before 2
+    let with_messages = Setting { messages: true, ..GOOD };
+    for slots in [0, 1, 65] {
+        assert_eq!(opened(Setting { slots, ..with_messages }), Err(1));
+        assert_eq!(opened(Setting { slots, frame: 0, ..with_messages }), Err(1));
+    }
+    for slots in [2, 64] {
+        assert_eq!(opened(Setting { slots, ..with_messages }), Ok(()));
+        assert_eq!(opened(Setting { slots, frame: 0, ..with_messages }), Err(2));
+    }
 }
 
 fn refused_add(planner: &mut Planner, stream: Stream) -> Refusal {
@@ -85,12 +95,14 @@ fn add_refuses_8() {
 // one unit. C.2: the demand rule is kept, and work was put off.
 #[test]
 fn add_refuses_12_and_13() {
-    let mut planner = Planner::open(Setting { slots: 1, frame: 2, gap: 9, last: 0 }).unwrap();
+    let mut planner =
+        Planner::open(Setting { slots: 1, frame: 2, gap: 9, last: 0, messages: false }).unwrap();
     planner.add(Stream { id: 1, release: 1, period: 2, deadline: 1 }).unwrap();
     let second = Stream { id: 2, release: 2, period: 2, deadline: 1 };
     assert_eq!(refused_add(&mut planner, second), Refusal::BreaksDemand);
 
-    let mut planner = Planner::open(Setting { slots: 1, frame: 10, gap: 20, last: 0 }).unwrap();
+    let mut planner =
+        Planner::open(Setting { slots: 1, frame: 10, gap: 20, last: 0, messages: false }).unwrap();
     for id in [1, 2] {
         planner.add(Stream { id, release: 1, period: 10, deadline: 10 }).unwrap();
     }
@@ -139,7 +151,7 @@ fn round_refuses_16() {
 // Annex C.4, the clock's end; 16 comes before 17; 7.4: a stream brings the start back.
 #[test]
 fn round_refuses_17() {
-    let late = Setting { slots: 2, frame: 6, gap: 2, last: 999_999_998 };
+    let late = Setting { slots: 2, frame: 6, gap: 2, last: 999_999_998, messages: false };
     let mut planner = Planner::open(late).unwrap();
     let before = *planner.as_bytes();
     let mut buffer = [7; 2];
@@ -154,11 +166,42 @@ fn round_refuses_17() {
     assert_eq!(planner.round(&mut buffer).unwrap().start, 1_000_000_000);
 }
 
+fn refused_send(planner: &mut Planner, number: u32) -> Refusal {
+    let before = *planner.as_bytes();
+    let refusal = planner.send(number).unwrap_err();
+    assert!(*planner.as_bytes() == before, "a refused send changed the planner");
+    refusal
+}
+
+// Annex 7.43, 7.44: 29 before 30, compared as it is passed: 98,304 is 29, though it is 32,768 above
+// a multiple of 65,536.
+#[test]
+fn send_refuses_29_and_30() {
+    let no_message = [0, 1, 32_767, 65_536, 98_304, u32::MAX];
+    let mut planner = Planner::open(Setting { messages: true, ..GOOD }).unwrap();
+    for sent in 0..=32 {
+        for number in no_message {
+            assert_eq!(refused_send(&mut planner, number), Refusal::BadMessage, "{number}");
+        }
+        if sent < 32 {
+            planner.send(if sent % 2 == 0 { 32_768 } else { 65_535 }).unwrap();
+        }
+    }
+    for number in [32_768, 40_000, 65_535] {
+        assert_eq!(refused_send(&mut planner, number), Refusal::WaitingFull);
+    }
+    assert_eq!((Refusal::BadMessage.number(), Refusal::WaitingFull.number()), (29, 30));
+    // with messages off every number
+    for number in no_message.into_iter().chain([32_768, 40_000, 65_535]) {
+        assert_eq!(refused_send(&mut opened(), number), Refusal::BadMessage);
+    }
+}
+
 // Table 1: which numbers this crate's calls give; 15 is never given, and 20 to 25 are others'.
 #[test]
 fn numbers_and_words() {
     let given: Vec<u32> = (0..=100).filter(|n| Refusal::from_number(*n).is_some()).collect();
-    let table: Vec<u32> = (1..=14).chain(16..=19).chain(26..=28).collect();
+    let table: Vec<u32> = (1..=14).chain(16..=19).chain(26..=30).collect();
     assert_eq!(given, table);
     for number in given {
         let refusal = Refusal::from_number(number).unwrap();

@@ -97,9 +97,11 @@ fn other_cases_of_c_4() {
 // Annex 5.6, 7.20, 7.30: the numbers and the records after each call of C.1, worked out by hand.
 #[test]
 fn what_is_kept() {
-    let mut planner = Planner::open(Setting { slots: 2, frame: 6, gap: 6, last: 0 }).unwrap();
+    let mut planner =
+        Planner::open(Setting { slots: 2, frame: 6, gap: 6, last: 0, messages: false }).unwrap();
     assert_eq!((planner.slots(), planner.frame(), planner.gap()), (2, 6, 6));
     assert_eq!((planner.last(), planner.now()), (0, 1));
+    assert_eq!((planner.messages(), planner.waiting()), (false, &[][..]));
     assert_eq!(planner.streams().len(), 0);
     // not in the order of their ids
     planner.add(Stream { id: 3, release: 2, period: 6, deadline: 5 }).unwrap();
@@ -127,7 +129,8 @@ fn what_is_kept() {
 // Annex 7.24, 7.29: the ids stand at the front of the buffer, and the later elements are untouched.
 #[test]
 fn ids_are_the_buffers_front() {
-    let mut planner = Planner::open(Setting { slots: 2, frame: 12, gap: 20, last: 0 }).unwrap();
+    let mut planner =
+        Planner::open(Setting { slots: 2, frame: 12, gap: 20, last: 0, messages: false }).unwrap();
     planner.add(Stream { id: 32_767, release: 1, period: 12, deadline: 12 }).unwrap();
     let mut buffer = [7; 3];
     let round = planner.round(&mut buffer).unwrap();
@@ -138,7 +141,8 @@ fn ids_are_the_buffers_front() {
 // Annex 12.24: a planner that is cloned answers as the first one does, and is another one.
 #[test]
 fn a_clone_is_another_planner() {
-    let mut one = Planner::open(Setting { slots: 1, frame: 12, gap: 20, last: 0 }).unwrap();
+    let mut one =
+        Planner::open(Setting { slots: 1, frame: 12, gap: 20, last: 0, messages: false }).unwrap();
     for id in [9, 4, 7] {
         one.add(Stream { id, release: 1, period: 12, deadline: 8 }).unwrap();
     }

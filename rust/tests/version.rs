@@ -15,7 +15,7 @@ fn versions_agree() {
 fn another_version_is_refused() {
     assert_ne!((version(), packet::version()), (VERSION, VERSION));
     assert_eq!(check_version(), Err(Refusal::OtherVersion));
-    let opened = Planner::open(Setting { slots: 2, frame: 6, gap: 6, last: 0 });
+    let opened = Planner::open(Setting { slots: 2, frame: 6, gap: 6, last: 0, messages: false });
     let handed = Planner::from_bytes(&[0; Planner::BYTES]);
     for planner in [opened, handed, Planner::from_raw(raw::Planner::ZEROS)] {
         assert_eq!(planner.unwrap_err(), Refusal::OtherVersion);

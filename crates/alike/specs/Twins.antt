@@ -7,6 +7,7 @@ use Rattle.planner.specs.Sound.{Sound}
 use Rattle.planner.specs.Open.{IsOpened}
 use Rattle.planner.specs.declared.Offer.{Offer}
 use Rattle.planner.specs.AddRemove.{IsAdd, IsRemove}
+use Rattle.planner.specs.Send.{IsSend}
 use Rattle.planner.specs.Round.{IsRound}
 use Rattle.planner.specs.declared.Setting.{Setting}
 use Rattle.planner.specs.declared.Planner.{Planner}
@@ -23,6 +24,7 @@ pub data Call : Type 0 where
   opening : (s : Setting) (t : ℕ) → Call
   add : (o : Offer) → Call
   remove : (id : ℕ) → Call
+  send : (number : ℕ) → Call
   round : (buffer : List ℕ) → Call
 
 -- Annex 12.24: .. and all that a caller sees of it: the answer, and of a round its start, n and every place of the buffer when it returns.
@@ -35,6 +37,7 @@ pub data Gives (p : Planner) : Call → Outcome → Planner → Type 0 where
   opens : (s : Setting) (t : ℕ) (r : Changed) → IsOpened s t r → Gives p (opening s t) (change (r .answer)) (r .planner)
   adds : (o : Offer) (r : Changed) → IsAdd p o r → Gives p (add o) (change (r .answer)) (r .planner)
   removes : (id : ℕ) (r : Changed) → IsRemove p id r → Gives p (remove id) (change (r .answer)) (r .planner)
+  sends : (n : ℕ) (r : Changed) → IsSend p n r → Gives p (send n) (change (r .answer)) (r .planner)
   rounds : (before after : List ℕ) (r : Rounded) → IsRound p before after r
       → Gives p (round before) (round (r .answer) (r .start) (r .n) after) (r .planner)
 

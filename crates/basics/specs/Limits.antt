@@ -33,6 +33,18 @@ largest-id = 32_767
 abbrev pub furthest-release : ℕ
 furthest-release = 239
 
+-- Annex 3.14: the least number of a message: above every id ..
+abbrev pub least-message : ℕ
+least-message = 32_768
+
+-- Annex 3.14: .. and the largest, that of 16 bits.
+abbrev pub largest-message : ℕ
+largest-message = 65_535
+
+-- Annex 3.15: so many messages wait at most.
+abbrev pub most-waiting : ℕ
+most-waiting = 32
+
 -- Annex 8.5: the largest key that an entry of a queue can have.
 abbrev pub largest-key : ℕ
 largest-key = 2_000_000_000

@@ -1,6 +1,6 @@
 -- The number of this version, which hosts and libraries compare.
 use Prim.Native.Nat.{ℕ}
 
--- Annex 7.40: this is version 6.
+-- Annex 7.40: this is version 7.
 abbrev pub version : ℕ
-version = 6
+version = 7

@@ -9,8 +9,8 @@ ghost use Rattle.basics.specs.OneTo.{OneTo};
 ghost use Rattle.basics.specs.Places.{Rises, IsPlaceAmong, IsUpper};
 
 // Limits that several crates share: no round starts later than the last start; a table and a queue have so many places; a round has at most so
-// many slots; no id, superframe, gap or period is larger; no release is further after now; no key of a queue is larger, and no two are further
-// apart; a queue has so many buckets.
+// many slots; no id, superframe, gap or period is larger; no release is further after now; a message is no smaller and no larger than these, and so
+// many wait at most; no key of a queue is larger, and no two are further apart; a queue has so many buckets.
 pub const LAST_START: u32 = 1_000_000_000;
 
 pub const PLACES: usize = 64;
@@ -26,6 +26,12 @@ pub const LONGEST_GAP: u32 = 255;
 pub const LONGEST_PERIOD: u32 = 240;
 
 pub const FURTHEST_RELEASE: u32 = 239;
+
+pub const LEAST_MESSAGE: u32 = 32_768;
+
+pub const LARGEST_MESSAGE: u32 = 65_535;
+
+pub const MOST_WAITING: u32 = 32;
 
 pub const LARGEST_KEY: u32 = 2_000_000_000;
 
@@ -46,7 +52,7 @@ pub const BUCKET_COUNT: usize = BUCKETS as usize;
 pub const LAST_BUCKET: usize = KEY_SPAN as usize;
 
 // The number of this version, which the libraries for C give.
-pub const VERSION: u32 = 6;
+pub const VERSION: u32 = 7;
 
 // Whether a number is 1 to a limit.
 pub fn is_one_to(n: u32, most: u32) -> bool

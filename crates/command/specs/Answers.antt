@@ -54,7 +54,7 @@ pub record IsRoundGiven (p : Planner) (r : Answered) : Type 0 where
 
 -- Annex 11.13, 11.20: what is answered to each command by this planner; to a malformed line `E,20,` and its number, and the planner stays.
 abbrev pub IsAnswered : Planner → ℕ → Command → Answered → Type 0
-IsAnswered p number (Open b f g t) r = IsOpenGiven (setting b f g) t r
+IsAnswered p number (Open b f g t) r = IsOpenGiven (setting b f g 0) t r
 IsAnswered p number (Add id start period deadline) r = IsAddGiven p (offer id start period deadline) r
 IsAnswered p number (Remove id) r = IsRemoveGiven p id r
 IsAnswered p number Round r = IsRoundGiven p r

@@ -78,9 +78,9 @@ fn held(done: Rounded, ids: [u16; 64]) -> Answered
 }
 
 fn opened(slots: u32, frame: u32, gap: u32, last: u32) -> Answered
-    ensures { λ r. ⌜ IsOpenGiven (setting slots frame gap) last r ⌝ }
+    ensures { λ r. ⌜ IsOpenGiven (setting slots frame gap 0) last r ⌝ }
 {
-    let done = planner::open(slots, frame, gap, last);
+    let done = planner::open(slots, frame, gap, last, 0);
     let after = done.planner;
     one(after, b'O', done.answer as u64)
 }

@@ -10,7 +10,7 @@ use planner::Planner;
 fn closed() -> Planner
     ensures { λ r. ⌜ IsFresh zeros 0 r ⌝ }
 {
-    let done = planner::open(0, 0, 0, 0);
+    let done = planner::open(0, 0, 0, 0, 0);
     let planner = done.planner;
     planner
 }

@@ -10,31 +10,35 @@ use Rattle.rules.specs.Streams.{Stream, packet, MayRide}
 use Rattle.planner.specs.Content.{Content, content}
 use Rattle.planner.specs.declared.Offer.{Offer}
 use Rattle.planner.specs.AddRemove.{added, removed, add-refusals, remove-refusals, IsChange}
+use Rattle.messages.specs.Numbers.{stream-ids}
+use Rattle.planner.specs.Send.{IsSend}
 use Rattle.planner.specs.Round.{IsRound}
 use Rattle.planner.specs.declared.Planner.{Planner}
 use Rattle.planner.specs.declared.Changed.{Changed}
 use Rattle.planner.specs.declared.Rounded.{Rounded}
 
--- Annex 12.7: a held round: its start, and the ids of its slots in their order.
+-- Annex 12.7: a held round: its start, and the ids that it lists in their order.
 pub record HeldRound : Type 0 where
   pub start : ℕ
   pub ids : List ℕ
 
--- Annex 12.7: of a round call, the start that it answered, and the ids in the buffer's first n places when it returns.
+-- Annex 12.7: of a round call, the start that it answered, and the ids among the buffer's first n elements when it returns; the others are messages.
 abbrev pub held-round : Rounded → List ℕ → HeldRound
-held-round r buffer = record { start = r .start; ids = take (r .n) buffer }
+held-round r buffer = record { start = r .start; ids = stream-ids (take (r .n) buffer) }
 
--- Annex 12.6: the calls but round that a list may hold, with any values: what each refuses and what it would leave. A further call is a line here.
+-- Annex 12.6: the calls that a list may hold refused alone, with any values: what each refuses and what it would leave. A further call is a line here.
 pub data Asked (q : Planner) : List Refusal → Content → Type 1 where
   add : (o : Offer) → Asked q (add-refusals q o) (added (content q) o)
   remove : (id : ℕ) → Asked q (remove-refusals q id) (removed (content q) id)
 
--- Annex 12.6, 12.7: a list of calls from p, in any order, with any values and buffers: each gets the planner that the one before handed back, and no
--- add or remove succeeds. Its held rounds are the round calls that answer 0, in their order; the last index is the planner that is left.
+-- Annex 12.6, 12.7: a list of calls from p, in any order, with any values and buffers: each gets the planner that the one before handed back, no
+-- add or remove succeeds, and sends have any answer. Its held rounds are the round calls that answer 0, in their order; the last index is the planner that
+-- is left.
 pub data Calls (p : Planner) : List HeldRound → Planner → Type 1 where
   none : Calls p [] p
   asked : {rounds : List HeldRound} {q : Planner} → Calls p rounds q → {refusals : List Refusal} {h : Content} → Asked q refusals h → (r : Changed)
       → IsChange refusals q h r → (r .answer ≡ 0 → ⊥) → Calls p rounds (r .planner)
+  sent : {rounds : List HeldRound} {q : Planner} → Calls p rounds q → (n : ℕ) (r : Changed) → IsSend q n r → Calls p rounds (r .planner)
   refused : {rounds : List HeldRound} {q : Planner} → Calls p rounds q → (before after : List ℕ) (r : Rounded)
       → IsRound q before after r → (r .answer ≡ 0 → ⊥) → Calls p rounds (r .planner)
   held : {rounds : List HeldRound} {q : Planner} → Calls p rounds q → (before after : List ℕ) (r : Rounded)
@@ -44,6 +48,7 @@ pub data Calls (p : Planner) : List HeldRound → Planner → Type 1 where
 unfoldable pub ClockEnded : {p : Planner} {rounds : List HeldRound} {q : Planner} → Calls p rounds q → Type 0
 ClockEnded none = ⊥
 ClockEnded (asked calls _ _ _ _) = ClockEnded calls
+ClockEnded (sent calls _ _ _) = ClockEnded calls
 ClockEnded (refused calls _ _ r _ _) = (r .answer ≡ 17) ⊎ ClockEnded calls
 ClockEnded (held calls _ _ _ _ _) = ClockEnded calls
 

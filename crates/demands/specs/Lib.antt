@@ -1,5 +1,5 @@
--- The three demands, a held round as a packet, and worked cases. A reader has to believe CallLists, Rivals, OtherCalls, One, Two, Three, Packets and
--- Cases. Decide has deciders, and Facts proves what they state.
+-- The three demands, a held round as a packet, and worked cases. A reader has to believe CallLists, Rivals, OtherCalls, One, Two, Three, Mail,
+-- Packets and Cases. Decide has deciders, and Facts proves what they state.
 pub mod CallLists
 pub mod Rivals
 pub mod Decide
@@ -7,6 +7,7 @@ pub mod OtherCalls
 pub mod One
 pub mod Two
 pub mod Three
+pub mod Mail
 pub mod Packets
 pub mod Cases
 pub mod Facts

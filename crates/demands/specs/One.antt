@@ -9,16 +9,17 @@ use Rattle.planner.specs.Sound.{Sound}
 use Rattle.planner.specs.Open.{zeros, open-refusals, opened, IsFresh, IsOpened}
 use Rattle.planner.specs.declared.Offer.{Offer}
 use Rattle.planner.specs.AddRemove.{add-refusals, remove-refusals, IsAdd, IsRemove}
+use Rattle.planner.specs.Send.{send-refusals, IsSend}
 use Rattle.planner.specs.Round.{round-refusals, IsRefusedRound, IsRound}
 use Rattle.planner.specs.declared.Setting.{Setting}
 use Rattle.planner.specs.declared.Planner.{Planner}
 use Rattle.planner.specs.declared.Changed.{Changed}
 use Rattle.planner.specs.declared.Rounded.{Rounded}
-use Rattle.lent.specs.Lent.{IsLentOpen, IsLentAdd, IsLentRemove, IsLentRound}
+use Rattle.lent.specs.Lent.{IsLentOpen, IsLentAdd, IsLentRemove, IsLentSend, IsLentRound}
 use Rattle.lent.specs.declared.Held.{Held}
 use Rattle.demands.specs.OtherCalls.{OtherCallsMeet}
 
--- Annex 12.2, 12.3: open gives the first number that applies, else 0; success gives a sound planner with B, F, G and L = T as passed and no stream, a
+-- Annex 12.2, 12.3: open gives the first number that applies, else 0; success gives a sound planner with what was passed, L = T and no stream, a
 -- refusal the closed one, which is not sound.
 pub record OpenMeets (s : Setting) (t : ℕ) (r : Changed) : Type 1 where
   pub answer : FirstOf (open-refusals s t) (r .answer)
@@ -39,24 +40,33 @@ pub record RemoveMeets (p : Planner) (id : ℕ) (r : Changed) : Type 1 where
   pub unchanged : (r .answer ≡ 0 → ⊥) → r .planner ≡ p
   pub sound : Sound p → Sound (r .planner)
 
+-- Annex 12.2, 12.3: send, the same.
+pub record SendMeets (p : Planner) (n : ℕ) (r : Changed) : Type 1 where
+  pub answer : FirstOf (send-refusals p n) (r .answer)
+  pub unchanged : (r .answer ≡ 0 → ⊥) → r .planner ≡ p
+  pub sound : Sound p → Sound (r .planner)
+
 -- Annex 12.2, 12.3: round, the same of planner and buffer; a refusal gives start 0 and n 0.
 pub record RoundMeets (p : Planner) (before after : List ℕ) (r : Rounded) : Type 1 where
   pub answer : FirstOf (round-refusals p before) (r .answer)
   pub unchanged : (r .answer ≡ 0 → ⊥) → IsRefusedRound p before after r
   pub sound : Sound p → Sound (r .planner)
 
--- Annex 7.1, 11.10, 12.1, 12.3: all four calls, by value and over a lent planner, on any planner, sound or not, any numbers and any buffer, by the
+-- Annex 7.1, 11.10, 12.1, 12.3: all five calls, by value and over a lent planner, on any planner, sound or not, any numbers and any buffer, by the
 -- contracts that their code is proved to meet, and the other calls likewise; nothing is asked of the caller.
 pub record Demand1 : Type 1 where
   pub open-meets : (s : Setting) (t : ℕ) (r : Changed) → IsOpened s t r → OpenMeets s t r
   pub add-meets : (p : Planner) (o : Offer) (r : Changed) → IsAdd p o r → AddMeets p o r
   pub remove-meets : (p : Planner) (id : ℕ) (r : Changed) → IsRemove p id r → RemoveMeets p id r
+  pub send-meets : (p : Planner) (n : ℕ) (r : Changed) → IsSend p n r → SendMeets p n r
   pub round-meets : (p : Planner) (before after : List ℕ) (r : Rounded) → IsRound p before after r → RoundMeets p before after r
   pub lent-open-meets : (s : Setting) (t : ℕ) (after : Planner) (r : ℕ) → IsLentOpen s t after r → OpenMeets s t (record { answer = r; planner = after })
   pub lent-add-meets : (before : Planner) (o : Offer) (after : Planner) (r : ℕ) → IsLentAdd before o after r
       → AddMeets before o (record { answer = r; planner = after })
   pub lent-remove-meets : (before : Planner) (id : ℕ) (after : Planner) (r : ℕ) → IsLentRemove before id after r
       → RemoveMeets before id (record { answer = r; planner = after })
+  pub lent-send-meets : (before : Planner) (n : ℕ) (after : Planner) (r : ℕ) → IsLentSend before n after r
+      → SendMeets before n (record { answer = r; planner = after })
   pub lent-round-meets : (before : Planner) (buffer written : List ℕ) (after : Planner) (r : Held) → IsLentRound before buffer written after r
       → RoundMeets before buffer written (record { answer = r .answer; planner = after; start = r .start; n = r .n })
   pub others : OtherCallsMeet

@@ -10,7 +10,7 @@ use Rattle.packet_bytes.specs.Layout.{Values}
 use Rattle.packets.specs.Good.{IsGood}
 use Rattle.packets.specs.Writing.{IsWritten}
 
--- Annex 12.16: what a round answered, as the values of a packet: its start, the planner's B, and the ids in the buffer's first n places.
+-- Annex 12.16: what a round answered, as the values of a packet: its start, the planner's B, and the numbers in the buffer's first n elements.
 abbrev pub round-values : Planner → List ℕ → Rounded → Values
 round-values p after r = record { start = r .start; slots = p .setting .slots; ids = take (r .n) after }
 

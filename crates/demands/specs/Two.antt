@@ -1,16 +1,15 @@
 -- Demand 2: the right round, and every stream that can be served. Annex, chapter 12.
 use mathlib.Core.Path.{_≡_}
 use mathlib.Core.Logic.{_↔_, _∨₁_}
-use mathlib.Core.List.{List, [], map}
-use Prim.Native.Nat.{ℕ, _≤_, _<_}
-use lib.ListN.{length, take}
+use mathlib.Core.List.{List, [], _++_, map}
+use Prim.Native.Nat.{ℕ, _-_, _≤_, _<_}
+use lib.ListN.{length, take, drop}
 use Rattle.basics.specs.Limits.{last-start}
 use Rattle.rules.specs.Streams.{Packet, at-zero}
 use Rattle.rules.specs.Slots.{IsSlots, slots}
 use Rattle.rules.specs.Plans.{Servable}
-use Rattle.planner.specs.Content.{Content, content, now-of, cap-of, slots-of, streams-in}
+use Rattle.planner.specs.Content.{Content, content, now-of, cap-of, with-last, with-waiting, slots-of, streams-in}
 use Rattle.planner.specs.Sound.{Sound}
-use Rattle.planner.specs.Open.{opened}
 use Rattle.planner.specs.declared.Offer.{Offer}
 use Rattle.planner.specs.AddRemove.{added, IsWellFormed, IsSoundWith, IsAdd}
 use Rattle.planner.specs.Round.{IsHeldRound, IsRound}
@@ -19,24 +18,26 @@ use Rattle.planner.specs.declared.Planner.{Planner}
 use Rattle.planner.specs.declared.Changed.{Changed}
 use Rattle.planner.specs.declared.Rounded.{Rounded}
 
--- Annex 12.4: the n ids in the buffer are those of the slots: of the packets that may ride, the first B by due time, then release, then id, in that order.
+-- Annex 12.4: what a round lists in the buffer's first n elements: the ids of its slots, which are, of the packets that may ride, the first by due time,
+-- then release, then id, in that order, as many as there are slots for streams; then the waiting messages that fit in the slots of B which these leave free.
 -- There is only one such list of packets (`slots-unique` of the rules), and of those due at the same time none is left out that has waited longer
 -- than one in it (`among-equals-longest-first` of the rules).
 pub record WritesSlots (p : Planner) (after : List ℕ) (r : Rounded) : Type 0 where
   pub packets : List Packet
   pub are-slots : IsSlots (slots-of (content p)) (r .start) (streams-in (content p)) packets
-  pub n : r .n ≡ length packets
-  pub ids : take (r .n) after ≡ map (λ (q : Packet). q .number) packets
+  pub listed : take (r .n) after ≡ map (λ (q : Packet). q .number) packets ++ take (p .setting .slots - length packets) (content p .waiting)
+  pub n : length (take (r .n) after) ≡ r .n
 
--- Annex 7.32: a round where there is no stream: at L + 1 + G with no slots, nothing is written, and L alone moves; 17 where that is after
--- 1,000,000,000. The lazy rule and the slot rule come to this by themselves.
+-- Annex 7.32: a round where there is no stream: at L + 1 + G, with as many waiting messages as B slots hold, and with none of them nothing is written; L
+-- moves, and these no longer wait; 17 where the cap is after 1,000,000,000. The lazy rule and the slot rule come to this by themselves.
 pub record RoundIsAtCap (p : Planner) (before after : List ℕ) (r : Rounded) : Type 0 where
   pub exactly : (r .answer ≡ 0) ↔ (cap-of (content p) ≤ last-start)
   pub seventeen : (r .answer ≡ 17) ↔ (last-start < cap-of (content p))
   pub start : r .answer ≡ 0 → r .start ≡ cap-of (content p)
-  pub n : r .answer ≡ 0 → r .n ≡ 0
-  pub buffer : r .answer ≡ 0 → after ≡ before
-  pub leaves : r .answer ≡ 0 → content (r .planner) ≡ opened (p .setting) (cap-of (content p))
+  pub n : r .answer ≡ 0 → r .n ≡ length (take (p .setting .slots) (content p .waiting))
+  pub buffer : r .answer ≡ 0 → after ≡ take (p .setting .slots) (content p .waiting) ++ drop (r .n) before
+  pub leaves : r .answer ≡ 0
+      → content (r .planner) ≡ with-waiting (with-last (content p) (cap-of (content p))) (drop (p .setting .slots) (content p .waiting))
 
 -- Annex 12.4: there is a lazy start; the round is held exactly if it is at most 1,000,000,000, and gets 17 exactly if not. Held, it is as `IsHeldRound`
 -- states by the lazy rule and the slot rule, and the slots are said of all packets that may ride; without streams it is at the cap.

@@ -4,6 +4,7 @@ use Prim.Native.Nat.{ℕ}
 use Rattle.planner.specs.Open.{IsOpened}
 use Rattle.planner.specs.declared.Offer.{Offer}
 use Rattle.planner.specs.AddRemove.{IsAdd, IsRemove}
+use Rattle.planner.specs.Send.{IsSend}
 use Rattle.planner.specs.Round.{IsRound}
 use Rattle.planner.specs.declared.Setting.{Setting}
 use Rattle.planner.specs.declared.Planner.{Planner}
@@ -20,6 +21,10 @@ IsLentAdd before o after r = IsAdd before o (record { answer = r; planner = afte
 -- Annex 7.35: the answer, and the planner at exit, are those of remove for the planner at entry.
 abbrev pub IsLentRemove : Planner → ℕ → Planner → ℕ → Type 0
 IsLentRemove before id after r = IsRemove before id (record { answer = r; planner = after })
+
+-- Annex 7.35: the answer, and the planner at exit, are those of send for the planner at entry.
+abbrev pub IsLentSend : Planner → ℕ → Planner → ℕ → Type 0
+IsLentSend before n after r = IsSend before n (record { answer = r; planner = after })
 
 -- Annex 7.35: the answer, start and n, and the planner and the buffer at exit, are those of round for the planner and the buffer at entry.
 abbrev pub IsLentRound : Planner → List ℕ → List ℕ → Planner → Held → Type 0

@@ -1,14 +1,14 @@
 // The planner that the firmware keeps and lends to each call to be changed: thin forms over the calls by value, exported to C.
-// A refused call stores nothing (Annex 7.37, 13.6): add, remove and round store the planner only where the answer is 0; open stores always.
+// A refused call stores nothing (Annex 7.37, 13.6): add, remove, send and round store the planner only where the answer is 0; open stores always.
 ghost use mathlib.Core.Path.{_≡_};
 ghost use lib.ListN.{length, take};
 ghost use Rattle.basics.specs.Version.{version};
 ghost use Rattle.planner.specs.Open.{setting};
 ghost use Rattle.planner.specs.AddRemove.{offer};
-ghost use Rattle.lent.specs.Lent.{IsLentOpen, IsLentAdd, IsLentRemove, IsLentRound};
+ghost use Rattle.lent.specs.Lent.{IsLentOpen, IsLentAdd, IsLentRemove, IsLentSend, IsLentRound};
 use planner::Planner;
 
-// What a round answers beside the planner: its start and the count of ids written, both 0 if refused.
+// What a round answers beside the planner: its start and the count of numbers written, both 0 if refused.
 #[repr(C)]
 pub struct Held {
     pub answer: u32,
@@ -18,10 +18,17 @@ pub struct Held {
 
 // Opens the lent planner, whatever it held; the answer is that of open.
 #[no_mangle]
-pub extern "C" fn planner_open(p: &mut Planner, slots: u32, frame: u32, gap: u32, last: u32) -> u32
-    ensures { λ r. ⌜ IsLentOpen (setting slots frame gap) last (now (p .exit)) r ⌝ }
+pub extern "C" fn planner_open(
+    p: &mut Planner,
+    slots: u32,
+    frame: u32,
+    gap: u32,
+    last: u32,
+    messages: u32,
+) -> u32
+    ensures { λ r. ⌜ IsLentOpen (setting slots frame gap messages) last (now (p .exit)) r ⌝ }
 {
-    let opened = planner::open(slots, frame, gap, last);
+    let opened = planner::open(slots, frame, gap, last, messages);
     *p = opened.planner;
     opened.answer
 }
@@ -56,7 +63,19 @@ pub extern "C" fn planner_remove(p: &mut Planner, id: u32) -> u32
     removed.answer
 }
 
-// Holds a round of the lent planner, and writes its ids into the buffer; the answer is that of round.
+// Has a message wait in the lent planner; the answer is that of send.
+#[no_mangle]
+pub extern "C" fn planner_send(p: &mut Planner, number: u32) -> u32
+    ensures { λ r. ⌜ IsLentSend (now (p .entry)) number (now (p .exit)) r ⌝ }
+{
+    let sent = planner::send(*p, number);
+    if sent.answer == 0 {
+        *p = sent.planner;
+    }
+    sent.answer
+}
+
+// Holds a round of the lent planner, and writes its ids and messages into the buffer; the answer is that of round.
 #[no_mangle]
 pub extern "C" fn planner_round(p: &mut Planner, buffer: &mut [u16]) -> Held
     ensures { λ r. ⌜ IsLentRound (now (p .entry)) (now (buffer .entry)) (now (buffer .exit)) (now (p .exit)) r ⌝ }

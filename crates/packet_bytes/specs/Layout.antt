@@ -3,7 +3,8 @@ use mathlib.Core.List.{List, [], _∷_, _++_}
 use Prim.Native.Nat.{ℕ, _/_, _%_}
 use lib.ListN.{length}
 
--- Annex 10.1: what a packet carries: the start of a round, B, and the ids of its slots in their order; n is their count.
+-- Annex 10.1: what a packet carries: the start of a round, B, and the numbers that it lists in their order, stream ids and then messages; n is their
+-- count.
 pub record Values : Type 0 where
   pub start : ℕ
   pub slots : ℕ

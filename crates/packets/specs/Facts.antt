@@ -3,5 +3,6 @@ pub mod Exchange
 pub mod Examples
 pub mod Good
 pub mod Met
+pub mod Numbers
 pub mod Reading
 pub mod Writing

@@ -1,11 +1,9 @@
-// Which ids are good: the one place that says so, for the writer and the reader.
+// Whether an id stands at an earlier place too, looked for in two ways.
 ghost use mathlib.Core.List.{List·Mem};
 ghost use Prim.Native.Nat.{_<_};
 ghost use lib.ListN.{length, getD, take};
 ghost use Rattle.basics.specs.Decides.{Decides};
-ghost use Rattle.packets.specs.Good.{IdsGood};
 ghost use Rattle.packets.specs.Met.{HasMet};
-use basics::LARGEST_ID_16;
 
 // Whether the id at a place stands at an earlier one too. Every earlier place is looked at: a loop that cannot be left compares many at once.
 fn stands_before(ids: &[u16], i: usize) -> bool
@@ -26,7 +24,7 @@ fn stands_before(ids: &[u16], i: usize) -> bool
 
 // The same, quickly. `met` has the remainders of all earlier ids: one whose remainder it has not was not met, and only for the others the earlier
 // places are looked through.
-fn is_met<'a>(met: &'a [u64; 16], ids: &'a [u16], i: usize) -> bool
+pub fn is_met<'a>(met: &'a [u64; 16], ids: &'a [u16], i: usize) -> bool
     requires { ⌜ (i < length (now ids)) × HasMet (now met) (take i (now ids)) ⌝ }
     ensures { λ r. ⌜ Decides r (List·Mem (getD (now (ids .entry)) i 0) (take i (now (ids .entry)))) ⌝ }
 {
@@ -35,26 +33,4 @@ fn is_met<'a>(met: &'a [u64; 16], ids: &'a [u16], i: usize) -> bool
         return false;
     }
     stands_before(ids, i)
-}
-
-pub fn ids_are_good(ids: &[u16]) -> bool
-    ensures { λ r. ⌜ Decides r (IdsGood (now (ids .entry))) ⌝ }
-{
-    let mut met = [0u64; 16];
-    let mut i: usize = 0;
-    while i < ids.len() {
-        let id = ids[i];
-        if id < 1 {
-            return false;
-        }
-        if LARGEST_ID_16 < id {
-            return false;
-        }
-        if is_met(&met, ids, i) {
-            return false;
-        }
-        bits::put_below_1024(&mut met, id % 1024);
-        i += 1;
-    }
-    true
 }

@@ -10,7 +10,7 @@ ghost use Rattle.packets.specs.Writing.{IsWritten};
 use basics::LAST_START;
 use basics::MOST_SLOTS;
 use basics::is_one_to;
-use ids::ids_are_good;
+use numbers::numbers_are_good;
 use packet_bytes::ids_of_pairs;
 use packet_bytes::start_of_header;
 use packet_bytes::wide;
@@ -18,6 +18,7 @@ use packet_bytes::write_header_in_room;
 use packet_bytes::write_ids_in_room;
 
 mod ids;
+mod numbers;
 
 // What a reader gives: the start, B and n; or the number of a refusal and zeros.
 #[repr(C)]
@@ -41,7 +42,7 @@ fn are_good(start: u32, slots: u32, ids: &[u16]) -> bool
     if (slots as usize) < ids.len() {
         return false;
     }
-    ids_are_good(ids)
+    numbers_are_good(ids)
 }
 
 // Annex 10.4, 10.5: writes a packet; 27 for a value that is not good, 28 for a buffer too short, both with nothing written.

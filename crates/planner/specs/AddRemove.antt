@@ -35,7 +35,7 @@ added h o = with-table h (put-by-id (offered o) (h .table))
 abbrev pub removed : Content → ℕ → Content
 removed h id = with-table h (without-id id (h .table))
 
--- Annex 7.11, 7.25: 5 if the planner is not sound.
+-- Annex 7.11, 7.22, 7.25, 7.42: 5 if the planner is not sound.
 abbrev pub unsound : Planner → Refusal
 unsound p = record { number = 5; Applies = Sound p → ⊥; decided = Dec·not (decide-sound p) }
 

@@ -2,11 +2,11 @@
 use mathlib.Core.Path.{sym, subst}
 use mathlib.Core.Logic.{Dec·and, ∥∥₁-elim}
 use mathlib.Core.List.{List, List·Mem, List·Mem-prop, decidableBAll, decidableBEx, decMem, instDecidablePairwise}
-use Prim.Native.Nat.{ℕ, _+_, _<_}
+use Prim.Native.Nat.{ℕ, _+_, _*_, _<_}
 use native.Mathlib.Decide.{ℕ-discrete, decLe, decLt, decDvd, map-dec}
 use lib.ListN.{length}
 use Rattle.basics.specs.OneTo.{decide-one-to}
-use Rattle.basics.specs.Limits.{furthest-release, largest-id, longest-period, last-start, places}
+use Rattle.basics.specs.Limits.{furthest-release, largest-id, longest-period, last-start, places, most-waiting}
 use Rattle.basics.specs.Refusals.{answer-of}
 use Rattle.rules.specs.Decide.{decide-demand-rule, decide-start-rule}
 use Rattle.table.specs.Table.{due-of}
@@ -14,8 +14,9 @@ use Rattle.table.specs.Range.{RecordInRange, RecordsInRange, AreNear}
 use Rattle.table.specs.declared.Record.{Record}
 use Rattle.queue.specs.Interface.{Entry, entries, entry-discrete}
 use Rattle.queue.specs.Interface
+use Rattle.messages.specs.Waiting.{decide-message}
 use Rattle.planner.specs.Content.{Content, content, slots-of, frame-of, streams-in, now-of, cap-of}
-use Rattle.planner.specs.Sound.{InRange, ContentSound, entry-of, Files, Sound}
+use Rattle.planner.specs.Sound.{MailInRange, InRange, ContentSound, entry-of, Files, Sound}
 use Rattle.planner.specs.declared.Setting.{Setting}
 use Rattle.planner.specs.Open.{open-refusals}
 use Rattle.planner.specs.Facts.Open.{NumbersInRange, range-numbers, in-range-by-numbers, open-exact}
@@ -47,10 +48,16 @@ decide-near now rs =
 decide-numbers : (s : Setting) (t : ℕ) → Dec (NumbersInRange s t)
 decide-numbers s t = map-dec (open-exact .0) (open-exact .1) (ℕ-discrete (answer-of (open-refusals s t)) 0)
 
+decide-mail : (on : ℕ) (ns : List ℕ) → Dec (MailInRange on ns)
+decide-mail on ns =
+    map-dec (λ w. record { few = w .0; range = w .1 }) (λ m. (m .few, m .range))
+    (Dec·and (decLe (length ns) (most-waiting * on)) (decidableBAll decide-message ns))
+
 decide-in-range : (h : Content) → Dec (InRange h)
 decide-in-range h =
-    map-dec (λ w. in-range-by-numbers (w .0) (w .1 .0) (w .1 .1)) (λ r. (range-numbers r, (r .at-most, r .records)))
-    (Dec·and (decide-numbers (h .setting) (h .last)) (Dec·and (decLe (length (h .table)) places) (decide-records (frame-of h) (h .table))))
+    map-dec (λ w. in-range-by-numbers (w .0) (w .1 .0) (w .1 .1 .0) (w .1 .1 .1)) (λ r. (range-numbers r, (r .at-most, (r .records, r .mail))))
+    (Dec·and (decide-numbers (h .setting) (h .last)) (Dec·and (decLe (length (h .table)) places)
+    (Dec·and (decide-records (frame-of h) (h .table)) (decide-mail (h .setting .messages) (h .waiting)))))
 
 decide-content : (h : Content) → Dec (ContentSound h)
 decide-content h =
@@ -71,11 +78,12 @@ decide-files es rs =
 -- Whether a planner is sound can be decided.
 pub decide-sound : (p : Planner) → Dec (Sound p)
 decide-sound p =
-    map-dec (λ w. record { count = w .0; content-sound = w .1 .0; queue-sound = w .1 .1 .0; files = w .1 .1 .1 })
-    (λ s. (s .count, (s .content-sound, (s .queue-sound, s .files))))
+    map-dec (λ w. record { count = w .0; waiting-count = w .1 .1 .1 .1; content-sound = w .1 .0; queue-sound = w .1 .1 .0; files = w .1 .1 .1 .0 })
+    (λ s. (s .count, (s .content-sound, (s .queue-sound, (s .files, s .waiting-count)))))
     (Dec·and (decLe (p .table .count) places)
     (Dec·and (decide-content (content p))
-    (Dec·and (Interface.decide-sound (p .queue)) (decide-files (entries (p .queue)) (content p .table)))))
+    (Dec·and (Interface.decide-sound (p .queue))
+    (Dec·and (decide-files (entries (p .queue)) (content p .table)) (decLe (p .waiting .count) most-waiting)))))
 
 -- Whether it starts late can be decided: a sound planner has just one lazy start.
 pub decide-late : (p : Planner) → Dec (Sound p) → Dec (StartsLate p)

@@ -5,6 +5,8 @@ pub mod Open
 pub mod Calls
 pub mod SlotWalk
 pub mod Kept
+pub mod Mail
+pub mod Listed
 pub mod Files
 pub mod SoundTest
 pub mod ServedTable

@@ -4,7 +4,7 @@ use mathlib.Core.List.{List, List·Mem}
 use Prim.Native.Nat.{ℕ, _+_, _≤_, _<_}
 use lib.ListN.{length, take, getD}
 use Rattle.basics.specs.OneTo.{OneTo}
-use Rattle.basics.specs.Limits.{last-start, places, largest-id, key-span, largest-key}
+use Rattle.basics.specs.Limits.{last-start, places, largest-id, key-span, largest-key, most-waiting}
 use Rattle.basics.specs.Refusals.{answer-of}
 use Rattle.rules.specs.Demand.{DemandRule, StartRule}
 use Rattle.table.specs.Table.{records-of, record-at, due-of}
@@ -15,11 +15,15 @@ use Rattle.table.specs.declared.Table.{Table}
 use Rattle.queue.specs.Interface.{entries, IsPlacedAt}
 use Rattle.queue.specs.Interface
 use Rattle.queue.specs.declared.Queue.{Queue}
+use Rattle.messages.specs.Waiting.{IsMessage, waiting-of}
+use Rattle.messages.specs.Needs.{HasWaiting}
+use Rattle.messages.specs.declared.Waiting.{Waiting}
 use Rattle.planner.specs.Content.{Content, content, slots-of, streams-in, now-of}
-use Rattle.planner.specs.Sound.{Files, Sound}
+use Rattle.planner.specs.Sound.{MailInRange, Files, Sound}
+use Rattle.planner.specs.Open.{open-refusals}
 use Rattle.planner.specs.declared.Offer.{Offer}
 use Rattle.planner.specs.AddRemove.{add-refusals, added, IsWellFormed}
-use Rattle.planner.specs.Round.{ids-at, round-refusals}
+use Rattle.planner.specs.Round.{ids-at, left-at, round-refusals}
 use Rattle.planner.specs.Start.{IsStart}
 use Rattle.planner.specs.declared.Planner.{Planner}
 use Rattle.planner.specs.declared.offers.Tested.{Tested}
@@ -30,6 +34,12 @@ pub record IsSoundStart (p : Planner) (r : ℕ) : Type 0 where
   pub unsound : r ≡ 0 → Sound p → ⊥
   pub sound : 1 ≤ r → Sound p
   pub start : 1 ≤ r → IsStart (content p) r
+
+-- The numbers of a planner are those of some opening, and what waits is in range.
+pub record HasNumbers (p : Planner) : Type 0 where
+  pub opened : answer-of (open-refusals (p .setting) (p .last)) ≡ 0
+  pub mail : MailInRange (p .setting .messages) (waiting-of (p .waiting))
+  pub waiting-count : p .waiting .count ≤ most-waiting
 
 -- What the comparison of queue and table relies on.
 pub record CanCompare (table : Table) : Type 0 where
@@ -45,7 +55,7 @@ IsFiled table q = Interface.Sound q × Files (entries q) (records-of table)
 
 -- The planner with another last start, table and queue.
 abbrev pub stored : Planner → ℕ → Table → Queue → Planner
-stored p last table queue = record { setting = p .setting; last = last; table = table; queue = queue }
+stored p last table queue = record { setting = p .setting; last = last; waiting = p .waiting; table = table; queue = queue }
 
 -- What the test of the two rules relies on: that none of 5 to 11 applies ..
 pub record CanTest (p : Planner) (o : Offer) : Type 0 where
@@ -62,6 +72,13 @@ pub record CanAdd (p : Planner) (o : Offer) : Type 0 where
 pub record IsTested (p : Planner) (o : Offer) (r : Tested) : Type 0 where
   pub answer : r .answer ≡ answer-of (add-refusals p o)
   pub can-add : r .answer ≡ 0 → CanAdd p o × HasRecords (added (content p) o .table) (r .table)
+
+-- What sending relies on: that none of 5, 29 and 30 applies.
+pub record CanSend (p : Planner) (n : ℕ) : Type 0 where
+  pub sound : Sound p
+  pub message : IsMessage n
+  pub on : p .setting .messages ≡ 1
+  pub place-free : p .waiting .count < most-waiting
 
 -- The answer of round for a buffer of this length.
 abbrev pub IsRoundAnswer : Planner → ℕ → ℕ → Type 0
@@ -96,10 +113,18 @@ pub record CanServeAll (p : Planner) (s : ℕ) (chosen : Chosen) : Type 0 where
   pub is-chosen : IsChosen (content p) s chosen
   pub are-found : AreFound (p .table) (p .queue) chosen
 
+-- Just the messages wait that a round at s leaves waiting.
+abbrev pub IsLeft : Content → ℕ → Waiting → Type 0
+IsLeft h s left = HasWaiting (left-at h s .waiting) left
+
 -- The planner's table with its rows rewritten.
 abbrev pub table-of : Planner → List Record → Table
 table-of p streams = record { count = p .table .count; streams = streams }
 
--- The planner with a round held at s, which left these streams and this queue.
-abbrev pub served-planner : Planner → ℕ → List Record → Queue → Planner
-served-planner p s streams queue = stored p s (table-of p streams) queue
+-- The planner with other waiting messages.
+abbrev pub with-list : Planner → Waiting → Planner
+with-list p w = record { setting = p .setting; last = p .last; waiting = w; table = p .table; queue = p .queue }
+
+-- The planner with a round held at s, which left these messages waiting, these streams and this queue.
+abbrev pub served-planner : Planner → ℕ → Waiting → List Record → Queue → Planner
+served-planner p s left streams queue = with-list (stored p s (table-of p streams) queue) left

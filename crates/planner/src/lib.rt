@@ -5,30 +5,35 @@ ghost use Rattle.planner.specs.AddRemove.{IsRemove};
 ghost use Rattle.planner.specs.Round.{IsRound};
 ghost use Rattle.planner.specs.Needs.{IsRoundAnswer, IsSoundStart};
 use basics::LAST_START;
+use messages::Waiting;
 pub use offers::add;
 pub use opening::open;
 use queue::Queue;
+pub use sending::send;
 use table::Table;
 
 mod offers;
 mod opening;
 mod removal;
+mod sending;
 mod slots;
 mod soundness;
 
-// What opening sets, and nothing changes later: B, F and G.
+// What opening sets, and nothing changes later: B, F and G, and 1 with messages on, 0 with them off.
 #[repr(C)]
 pub struct Setting {
     pub slots: u32,
     pub frame: u32,
     pub gap: u32,
+    pub messages: u32,
 }
 
-// The setting and L, the streams in ascending id, and the queue that files them under their due times.
+// The setting and L, the messages that wait, the streams in ascending id, and the queue that files them under their due times.
 #[repr(C)]
 pub struct Planner {
     pub setting: Setting,
     pub last: u32,
+    pub waiting: Waiting,
     pub table: Table,
     pub queue: Queue,
 }
@@ -47,7 +52,7 @@ pub struct Changed {
     pub planner: Planner,
 }
 
-// What a round answers: its start and the count of ids written, both 0 if refused, and the planner after it.
+// What a round answers: its start and the count of numbers written, both 0 if refused, and the planner after it.
 pub struct Rounded {
     pub answer: u32,
     pub planner: Planner,
@@ -84,7 +89,7 @@ fn round_refusal_tested(p: Planner, start: u32, length: usize) -> u32
     0
 }
 
-// Annex 7.24 to 7.32: holds the next round; its ids go to the first n places of the buffer.
+// Annex 7.24 to 7.32, 7.46, 7.47: holds the next round; its ids, and behind them messages, go to the first n elements of the buffer.
 pub fn round(p: Planner, buffer: &mut [u16]) -> Rounded
     ensures { λ r. ⌜ IsRound p (now (buffer .entry)) (now (buffer .exit)) r ⌝ }
 {
@@ -101,13 +106,17 @@ pub fn round(p: Planner, buffer: &mut [u16]) -> Rounded
     let chosen = slots::choose_sound(p, start);
     let placed = chosen.placed;
     let ids = placed.ids;
-    slots::write_ids_in_range(buffer, ids, chosen.n);
-    let planner = slots::serve_sound(p, chosen, start);
+    let free = p.setting.slots as usize - chosen.n;
+    let listed = messages::list_in_range(ids, chosen.n, free, p.waiting);
+    let numbers = listed.numbers;
+    slots::write_in_range(buffer, numbers, listed.n);
+    let left = listed.left;
+    let planner = slots::serve_sound(p, chosen, start, left);
     Rounded {
         answer: 0,
         planner,
         start,
-        n: chosen.n as u32,
+        n: listed.n as u32,
     }
 }
 

@@ -83,13 +83,19 @@ fn rule_refusal_sound(p: Planner, offer: Offer, table: Table) -> u32
     requires { ⌜ CanTest p offer × HasRecords (added (content p) offer .table) table ⌝ }
     ensures { λ r. ⌜ r ≡ answer-of (rule-refusals (added (content p) offer)) ⌝ }
 {
-    let busy = table::busy_length_in_range(table, p.setting.slots, p.setting.frame);
+    let busy = table::busy_length_in_range(
+        table,
+        p.setting.slots - p.setting.messages,
+        p.setting.frame,
+    );
     if busy == 0 {
         return 12;
     }
     // Whether there is a start does not depend on the cap, if that is not before now: now is given for it.
     let now = p.last + 1;
-    if table::next_start_in_range(table, p.setting.slots, now, now, busy) == 0 {
+    if table::next_start_in_range(table, p.setting.slots - p.setting.messages, now, now, busy)
+        == 0
+    {
         return 13;
     }
     0

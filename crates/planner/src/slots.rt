@@ -6,10 +6,11 @@ ghost use lib.ListN.{length, take, drop};
 ghost use Rattle.basics.specs.Limits.{most-slots};
 ghost use Rattle.planner.specs.Content.{content};
 ghost use Rattle.planner.specs.AddRemove.{IsSoundWith};
-ghost use Rattle.planner.specs.Round.{rounded};
-ghost use Rattle.planner.specs.Needs.{CanChoose, CanServeAll, IsChosen, AreFound, served-planner};
+ghost use Rattle.planner.specs.Round.{left-at};
+ghost use Rattle.planner.specs.Needs.{CanChoose, CanServeAll, IsChosen, AreFound, IsLeft, served-planner};
 use super::Planner;
 use basics::wide;
+use messages::Waiting;
 use queue::Placed;
 use queue::Queue;
 use table::Record;
@@ -22,14 +23,14 @@ pub struct Chosen {
     pub n: usize,
 }
 
-// The first n ids go to the first n places of the buffer; the later ones stay.
-pub fn write_ids_in_range(buffer: &mut [u16], ids: [u16; 64], n: usize)
+// The first n numbers go to the first n elements of the buffer; the later ones stay.
+pub fn write_in_range(buffer: &mut [u16], numbers: [u16; 64], n: usize)
     requires { ⌜ (n ≤ most-slots) × (n ≤ length (now buffer)) ⌝ }
-    ensures { λ _. ⌜ now (buffer .exit) ≡ take n ids ++ drop n (now (buffer .entry)) ⌝ }
+    ensures { λ _. ⌜ now (buffer .exit) ≡ take n numbers ++ drop n (now (buffer .entry)) ⌝ }
 {
     let mut k: usize = 0;
     while k < n {
-        buffer[k] = ids[k];
+        buffer[k] = numbers[k];
         k += 1;
     }
 }
@@ -52,7 +53,7 @@ pub fn choose_sound(p: Planner, start: u32) -> Chosen
     let mut n: usize = 0;
     let mut i: usize = 0;
     while i < table.count {
-        if n == p.setting.slots as usize {
+        if n == (p.setting.slots - p.setting.messages) as usize {
             return Chosen { placed, rows, n };
         }
         let id = order.ids[i];
@@ -70,9 +71,15 @@ pub fn choose_sound(p: Planner, start: u32) -> Chosen
     Chosen { placed, rows, n }
 }
 
-// The planner with a round held at start, which left these streams and this queue.
-fn after_round(p: Planner, start: u32, streams: [Record; 64], queue: Queue) -> Planner
-    ensures { λ r. ⌜ r ≡ served-planner p start streams queue ⌝ }
+// The planner with a round held at start, which left these messages waiting, these streams and this queue.
+fn after_round(
+    p: Planner,
+    start: u32,
+    left: Waiting,
+    streams: [Record; 64],
+    queue: Queue,
+) -> Planner
+    ensures { λ r. ⌜ r ≡ served-planner p start left streams queue ⌝ }
 {
     let before = p.table;
     let table = Table {
@@ -81,15 +88,16 @@ fn after_round(p: Planner, start: u32, streams: [Record; 64], queue: Queue) -> P
     };
     let mut after = p;
     after.last = start;
+    after.waiting = left;
     after.table = table;
     after.queue = queue;
     after
 }
 
-// Each stream chosen passes to its next packet, in the table and in the queue, and the start is the last one.
-pub fn serve_sound(p: Planner, chosen: Chosen, start: u32) -> Planner
-    requires { ⌜ CanServeAll p start chosen ⌝ }
-    ensures { λ r. ⌜ IsSoundWith (rounded (content p) start) r ⌝ }
+// Each stream chosen passes to its next packet, in the table and in the queue, the start is the last one, and the messages left wait on.
+pub fn serve_sound(p: Planner, chosen: Chosen, start: u32, left: Waiting) -> Planner
+    requires { ⌜ CanServeAll p start chosen × IsLeft (content p) start left ⌝ }
+    ensures { λ r. ⌜ IsSoundWith (left-at (content p) start) r ⌝ }
 {
     let before = p.table;
     let mut streams = before.streams;
@@ -104,5 +112,5 @@ pub fn serve_sound(p: Planner, chosen: Chosen, start: u32) -> Planner
     }
     let filed = p.queue;
     let queue = queue::move_all_sound(filed, chosen.placed, periods, chosen.n);
-    after_round(p, start, streams, queue)
+    after_round(p, start, left, streams, queue)
 }

@@ -26,7 +26,7 @@ pub fn answer(kept: &mut Option<Planner>, line: &str) -> String {
     let numbers: Vec<u32> = fields.map(|field| field.parse().unwrap()).collect();
     match (letter, &numbers[..], kept.as_mut()) {
         ("O", &[slots, frame, gap, last], _) => {
-            let opened = Planner::open(Setting { slots, frame, gap, last });
+            let opened = Planner::open(Setting { slots, frame, gap, last, messages: false });
             let answer = number(opened.as_ref().map(|_| ()).map_err(|refusal| *refusal));
             *kept = opened.ok();
             format!("O,{answer}")

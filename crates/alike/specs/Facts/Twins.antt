@@ -16,7 +16,8 @@ use Rattle.planner.specs.Decide.{decide-sound}
 use Rattle.planner.specs.Open.{open-refusals, IsOpened}
 use Rattle.planner.specs.declared.Offer.{Offer}
 use Rattle.planner.specs.AddRemove.{unsound, offer-refusals, rule-refusals, added, removed, not-held, IsSoundWith, IsChange}
-use Rattle.planner.specs.Round.{ids-at, rounded, short-buffer, late-start, IsRound, IsHeldRound}
+use Rattle.planner.specs.Send.{no-message, mail-full, posted}
+use Rattle.planner.specs.Round.{listed-at, left-at, short-buffer, late-start, IsRound, IsHeldRound}
 use Rattle.planner.specs.Start.{IsStart, StartsLate}
 use Rattle.planner.specs.Facts.Calls.{refused-change, success-change, refused-round, success-round}
 use Rattle.planner.specs.declared.Setting.{Setting}
@@ -24,7 +25,7 @@ use Rattle.planner.specs.declared.Planner.{Planner}
 use Rattle.planner.specs.declared.Changed.{Changed}
 use Rattle.planner.specs.declared.Rounded.{Rounded}
 use Rattle.alike.specs.Twins.{AreTwins, both-sound, neither-sound, SameOutcomes}
-use Rattle.alike.specs.Twins.{Call, Outcome, change, round, Gives, opens, adds, removes, rounds, Makes, none, then}
+use Rattle.alike.specs.Twins.{Call, Outcome, change, round, Gives, opens, adds, removes, sends, rounds, Makes, none, then}
 use Rattle.alike.specs.Facts.Refusals.{AreAlike, same-answers}
 
 -- Annex 12.23: equal planners are twins
@@ -59,12 +60,12 @@ same-opening {s} {t} {r} {r′} is is′ = (is .answer ∙ sym (is′ .answer), 
     go (yes zero) = is .opened zero .whole ∙ sym (is′ .opened zero .whole)
     go (no some) = is .closed some .whole ∙ sym (is′ .closed some .whole)
 
--- Two rounds are the same: in answer, start, n and the ids in the first n places; from equal buffers in every place; and twins are left.
+-- Two rounds are the same: in answer, start, n and what is listed in the first n elements; from equal buffers in every element; and twins are left.
 pub record IsSameRound (before before′ after after′ : List ℕ) (r s : Rounded) : Type 0 where
   pub answer : r .answer ≡ s .answer
   pub start : r .start ≡ s .start
   pub n : r .n ≡ s .n
-  pub ids : take (r .n) after ≡ take (s .n) after′
+  pub listed : take (r .n) after ≡ take (s .n) after′
   pub buffer : before ≡ before′ → after ≡ after′
   pub twins-after : AreTwins (r .planner) (s .planner)
 
@@ -119,9 +120,9 @@ module _ {p q : Planner} (twins : AreTwins p q) where
       pub same-round : IsSameRound before before′ after after′ r s
       same-round = go (ℕ-discrete (r .answer) 0) twins
         where
-          first-n : {o : Planner} {old new : List ℕ} {x : Rounded} → IsHeldRound o old new x → take (x .n) new ≡ ids-at (content o) (x .start)
+          first-n : {o : Planner} {old new : List ℕ} {x : Rounded} → IsHeldRound o old new x → take (x .n) new ≡ listed-at (content o) (x .start)
           first-n {o} {old} {x = x} held =
-              ap (take (x .n)) (held .buffer) ∙ take-at (ids-at (content o) (x .start)) (drop (x .n) old) (x .n) (sym (held .n))
+              ap (take (x .n)) (held .buffer) ∙ take-at (listed-at (content o) (x .start)) (drop (x .n) old) (x .n) (sym (held .n))
 
           go : Dec (r .answer ≡ 0) → AreTwins p q → IsSameRound before before′ after after′ r s
           go (yes zero) (both-sound _ _ same) =
@@ -130,15 +131,15 @@ module _ {p q : Planner} (twins : AreTwins p q) where
               let h = content q in
               let start : r .start ≡ s .start = lazy-unique (slots-of h) (cap-of h) (streams-in h) (r .start) (s .start)
               (subst (λ (c : Content). IsStart c (r .start)) same (held .start)) (held′ .start) in
-              let ids : ids-at (content p) (r .start) ≡ ids-at (content q) (s .start) = λ i. ids-at (same i) (start i) in
-              let n : r .n ≡ s .n = held .n ∙ ap (length {A = ℕ}) ids ∙ sym (held′ .n) in
+              let listed : listed-at (content p) (r .start) ≡ listed-at (content q) (s .start) = λ i. listed-at (same i) (start i) in
+              let n : r .n ≡ s .n = held .n ∙ ap (length {A = ℕ}) listed ∙ sym (held′ .n) in
               record {
                 answer = round-answers;
                 start = start;
                 n = n;
-                ids = first-n held ∙ ids ∙ sym (first-n held′);
-                buffer = λ equal. held .buffer ∙ (λ i. ids i ++ drop (n i) (equal i)) ∙ sym (held′ .buffer);
-                twins-after = sound-are-twins (λ i. rounded (same i) (start i)) (held .planner) (held′ .planner);
+                listed = first-n held ∙ listed ∙ sym (first-n held′);
+                buffer = λ equal. held .buffer ∙ (λ i. listed i ++ drop (n i) (equal i)) ∙ sym (held′ .buffer);
+                twins-after = sound-are-twins (λ i. left-at (same i) (start i)) (held .planner) (held′ .planner);
               }
           go (yes zero) (neither-sound bad _) =
               absurd (lt-irrefl 0 (omega (arith, zero, is .answer, answer-first (unsound p) (short-buffer (content p) before ∷ late-start p ∷ []) bad)))
@@ -149,7 +150,7 @@ module _ {p q : Planner} (twins : AreTwins p q) where
                 answer = round-answers;
                 start = refused .start ∙ sym (refused′ .start);
                 n = refused .n ∙ sym (refused′ .n);
-                ids = ap (λ (k : ℕ). take k after) (refused .n) ∙ ap (λ (k : ℕ). take k after′) (sym (refused′ .n));
+                listed = ap (λ (k : ℕ). take k after) (refused .n) ∙ ap (λ (k : ℕ). take k after′) (sym (refused′ .n));
                 buffer = λ equal. refused .buffer ∙ equal ∙ sym (refused′ .buffer);
                 twins-after = still-twins (refused .planner) (refused′ .planner);
               }
@@ -158,9 +159,13 @@ module _ {p q : Planner} (twins : AreTwins p q) where
 abbrev pub add-rest : Offer → Content → List Refusal
 add-rest o h = offer-refusals h o ++ rule-refusals (added h o)
 
--- .. and remove
+-- .. and remove ..
 abbrev pub remove-rest : ℕ → Content → List Refusal
 remove-rest id h = not-held id h ∷ []
+
+-- .. and send
+abbrev send-rest : ℕ → Content → List Refusal
+send-rest n h = no-message n h ∷ mail-full h ∷ []
 
 -- one call on twins: the same outcome, and twins are left
 pub same-outcome : {p p′ q q′ : Planner} {c : Call} {o o′ : Outcome} → AreTwins p p′ → Gives p c o q → Gives p′ c o′ q′ → (o ≡ o′) × AreTwins q q′
@@ -171,6 +176,9 @@ same-outcome twins (adds o r is) (adds _ r′ is′) =
 same-outcome twins (removes id r is) (removes _ r′ is′) =
     let holds : Content → Content = λ h. removed h id in
     (ap change (change-answers twins (remove-rest id) holds is is′), change-twins twins (remove-rest id) holds is is′)
+same-outcome twins (sends n r is) (sends _ r′ is′) =
+    let holds : Content → Content = λ h. posted h n in
+    (ap change (change-answers twins (send-rest n) holds is is′), change-twins twins (send-rest n) holds is is′)
 same-outcome twins (rounds before after r is) (rounds _ after′ r′ is′) =
     let same = same-round twins refl is is′ in
     let buffer = same .buffer refl in

@@ -5,12 +5,11 @@ use Prim.Native.Nat.{ℕ, _+_, _≤_, _<_}
 use native.Mathlib.Decide.{ℕ-discrete}
 use native.Mathlib.Numerals.{add-one}
 use native.Mathlib.Omega.{arith}
-use lib.ListN.{length, take, getD, set, length-set, length-map, length-take}
+use lib.ListN.{length, take, getD, set, length-set}
 use Rattle.basics.specs.Limits.{most-slots}
-use Rattle.rules.specs.Streams.{Stream}
-use Rattle.rules.specs.Slots.{slots}
-use Rattle.planner.specs.Content.{content, slots-of, streams-in}
-use Rattle.planner.specs.Round.{ids-at, IsRound}
+use Rattle.planner.specs.Content.{content}
+use Rattle.planner.specs.Round.{IsRound}
+use Rattle.planner.specs.Facts.Listed.{few-listed}
 use Rattle.planner.specs.Facts.Calls.{held-is-sound}
 use Rattle.planner.specs.declared.Planner.{Planner}
 use Rattle.planner.specs.declared.Rounded.{Rounded}
@@ -48,17 +47,12 @@ all-copied {ids} {old} {n} sixty-four sixty-eight few ended copied =
     ap (take (3 + n)) (copied .content ∙ ap (paste old 3 ids) ended)
     ∙ take-paste old 3 ids n (omega (arith, sixty-eight)) (omega (arith, sixty-four))
 
--- a held round has at most 64 ids
+-- a held round lists at most 64 numbers
 pub few-ids : {p : Planner} {before after : List ℕ} {r : Rounded} → IsRound p before after r → r .answer ≡ 0 → r .n ≤ most-slots
-unfolding slots
 few-ids {p} {before} {r = r} is zero =
     let none = sym (is .answer) ∙ zero in
     let sound = held-is-sound p before none in
-    let s = r .start in
-    let ids = is .held none .n in
-    let chosen = slots (slots-of (content p)) s (streams-in (content p)) in
-    let few : length (ids-at (content p) s) ≤ slots-of (content p) = rw (length-map chosen (λ (x : Stream). x .number), length-take) (omega arith) in
-    omega (arith, ids, few, sound .content-sound .in-range .setting .slots)
+    omega (arith, is .held none .n, few-listed (content p) (r .start), sound .content-sound .in-range .setting .slots)
 
 -- an answer's lines are few enough for its room
 pub answered-few : (p : Planner) (number : ℕ) (command : Command) (r : Answered) → IsAnswered p number command r → AreFew (r .lines)

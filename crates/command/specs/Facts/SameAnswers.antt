@@ -55,7 +55,7 @@ same-answered twins number Round r s is is′ = go (ℕ-discrete (is .done .answ
 
     go : Dec (is .done .answer ≡ 0) → IsSameAnswer r s
     go (yes zero) =
-        same-given (same .twins-after) (λ i. 0 ∷ same .start i ∷ same .n i ∷ same .ids i) (is .held zero) (is′ .held (sym (same .answer) ∙ zero))
+        same-given (same .twins-after) (λ i. 0 ∷ same .start i ∷ same .n i ∷ same .listed i) (is .held zero) (is′ .held (sym (same .answer) ∙ zero))
     go (no some) =
         same-given (same .twins-after) (ap (λ (n : ℕ). n ∷ []) (same .answer)) (is .refused some) (is′ .refused (λ zero. some (same .answer ∙ zero)))
 same-answered twins number Malformed r s is is′ = same-given twins refl is is′

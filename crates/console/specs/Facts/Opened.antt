@@ -65,7 +65,7 @@ module _ (q : Planner) (number : ℕ) (line answer : List ℕ) (r : Answered) (t
         its-text = given-text (is .given)
 
         success : is .done .answer ≡ 0 → Sound (r .planner)
-        success zero = subst⁻¹ Sound (is .given .planner) (open-success-is-sound (setting b f g) t (is .done) (is .by-contract) zero)
+        success zero = subst⁻¹ Sound (is .given .planner) (open-success-is-sound (setting b f g 0) t (is .done) (is .by-contract) zero)
 
         go : IsLine letter-O (0 ∷ []) answer ⊎ (Before × IsNoOpen line) → Sound (r .planner)
         go (inl opened) = success (ap (λ (l : List ℕ). getD l 0 0) (line-numbers its-text opened .1))

@@ -4,10 +4,8 @@ use mathlib.Core.Logic.{⊎-elim, Or·elim, ∥∥₁-map, ∥∥₁-elim}
 use mathlib.Core.List.{List, [], _∷_, _++_, append-assoc, map, map-id, map-map, map-append, map-congr-left}
 use mathlib.Core.List.{List·Mem, List·Mem-prop, List·Nodup, mem-map, mem-map-of-mem, mem-append, eq-or-mem-of-mem-cons, not-mem-nil}
 use Prim.Native.Nat.{ℕ, _+_, _*_, _≤_, _<_}
-use native.Mathlib.Decide.{decLt}
+use native.Mathlib.Decide.{decLt, ℕ-discrete}
 use native.Mathlib.Omega.{arith}
-use lib.ListN.{take, drop}
-use lib.Seq.{take-at}
 use Rattle.rules.specs.Streams.{Stream, Packet, packet, MayRide}
 use Rattle.rules.specs.Slots.{slots, served, Served}
 use Rattle.rules.specs.Plans.{Round}
@@ -19,19 +17,21 @@ use Rattle.table.specs.Table.{stream-of, with-release}
 use Rattle.table.specs.Facts.Streams.{seen-changed, numbers}
 use Rattle.table.specs.Changes.{HasId}
 use Rattle.table.specs.declared.Record.{Record}
-use Rattle.planner.specs.Content.{Content, content, slots-of, streams-in, now-of, cap-of, start-gap-of, with-table, with-last}
+use Rattle.planner.specs.Content.{Content, content, slots-of, streams-in, now-of, cap-of, start-gap-of, with-table, with-last, with-waiting}
 use Rattle.planner.specs.Sound.{ContentSound, Sound}
 use Rattle.planner.specs.Facts.Sound.{content-ready}
 use Rattle.planner.specs.Facts.Kept.{sent-at, seen-sent-at, rounded-streams, sent-at-release}
 use Rattle.planner.specs.Round.{ids-at, rounded, IsHeldRound}
 use Rattle.planner.specs.Start.{IsStart, StartsLate}
-use Rattle.planner.specs.Facts.Calls.{refused-change, refused-round, success-round, held-is-not-late, seventeen-is-late}
+use Rattle.planner.specs.Facts.Mail.{waits-sound, sent-is-sound}
+use Rattle.planner.specs.Facts.Calls.{refused-change, success-change, refused-round, success-round, held-is-not-late, seventeen-is-late}
 use Rattle.planner.specs.declared.Planner.{Planner}
 use Rattle.planner.specs.declared.Rounded.{Rounded}
-use Rattle.demands.specs.CallLists.{Calls, none, asked, refused, held, ClockEnded}
+use Rattle.demands.specs.CallLists.{Calls, none, asked, sent, refused, held, ClockEnded}
 use Rattle.demands.specs.CallLists.{HeldRound, held-round, times-in, times-sent, IsSentInTime}
 use Rattle.demands.specs.Facts.CallLists.{stands-once, stands-never, times-sent-snoc, passes-as-sent, last-of, last-snoc}
 use Rattle.demands.specs.Facts.EndlessRounds.{state-of}
+use Rattle.demands.specs.Facts.Written.{ids-written}
 
 -- a stream with the packets sent that the rounds say
 abbrev pub sent-in : List HeldRound → Stream → Stream
@@ -168,21 +168,18 @@ module _ (h : Content) (rounds : List HeldRound) (sound : ContentSound (after-ro
       go x there m below (yes earlier) =
           let one = slots-round so-far s ∷ [] in
           ∥∥₁-map (follows .in-time x there m earlier)
-          (λ (earlier, (r, (later, (split, sent)))). (
+          (λ (earlier, (r, (later, (split, goes)))). (
             earlier,
-            (r, (later ++ one, (ap (λ (xs : List HeldRound). xs ++ one) split ∙ append-assoc earlier (r ∷ later) one, sent))),
+            (r, (later ++ one, (ap (λ (xs : List HeldRound). xs ++ one) split ∙ append-assoc earlier (r ∷ later) one, goes))),
           ))
       go x there m below (no now) =
           let rides = sent-rides x there m (omega arith) below in
           ∣ (rounds, (slots-round so-far s, ([], (refl, record { not-before = omega arith; here = below; in-time = rides })))) ∣₁
 
--- the ids in the first n places are those of the slots
-pub ids-written : (q : Planner) (before after : List ℕ) (r : Rounded) → IsHeldRound q before after r → take (r .n) after ≡ ids-at (content q) (r .start)
-ids-written q before after r is = ap (take (r .n)) (is .buffer) ∙ take-at (ids-at (content q) (r .start)) (drop (r .n) before) (r .n) (sym (is .n))
-
 -- a held round of the contract is the lazy round
-held-is-lazy : (q : Planner) (before after : List ℕ) (r : Rounded) → IsHeldRound q before after r → held-round r after ≡ slots-round (content q) (r .start)
-held-is-lazy q before after r is = λ i. record { start = r .start; ids = ids-written q before after r is i }
+held-is-lazy : (q : Planner) → Sound q → (before after : List ℕ) (r : Rounded) → IsHeldRound q before after r
+    → held-round r after ≡ slots-round (content q) (r .start)
+held-is-lazy q sound before after r is = λ i. record { start = r .start; ids = ids-written q sound before after r is i }
 
 -- one round more, said of what the planner holds
 one-round : (h : Content) (rounds : List HeldRound) (c : Content) → Follows h rounds c → ContentSound c → (s : ℕ) → IsStart c s
@@ -191,29 +188,52 @@ one-round h rounds c follows sound s start =
     subst⁻¹ (λ (d : Content). Follows h rounds d → ContentSound d → IsStart d s → Follows h (rounds ++ (slots-round d s ∷ [])) (rounded d s)) (follows .holds)
     (λ so-far is-sound is-start. one-more h rounds is-sound s is-start so-far) follows sound start
 
-abbrev pub AfterCalls : Planner → List HeldRound → Planner → Type 0
-AfterCalls p rounds q = Sound q × Follows (content p) rounds (content q)
+-- what is held, but for the messages: with none waiting
+abbrev pub quiet : Content → Content
+quiet h = with-waiting h []
 
--- after a list of calls the planner is sound and holds what its held rounds leave
+-- which is sound too
+pub quiet-sound : {h : Content} → ContentSound h → ContentSound (quiet h)
+quiet-sound sound = waits-sound sound (record { few = omega arith; range = λ n m. absurd (not-mem-nil m) })
+
+abbrev pub AfterCalls : Planner → List HeldRound → Planner → Type 0
+AfterCalls p rounds q = Sound q × Follows (quiet (content p)) rounds (quiet (content q))
+
+-- after a list of calls the planner is sound and holds what its held rounds leave, but for the messages
 pub calls-follow : (p : Planner) → Sound p → {rounds : List HeldRound} {q : Planner} → Calls p rounds q → AfterCalls p rounds q
-calls-follow p sound none = (sound, no-rounds (content p))
+calls-follow p sound none = (sound, no-rounds (quiet (content p)))
 calls-follow p sound (asked {rounds} calls call r is nonzero) = subst⁻¹ (AfterCalls p rounds) (refused-change is nonzero) (calls-follow p sound calls)
+calls-follow p sound (sent {rounds} {q} calls n r is) = go (calls-follow p sound calls) (ℕ-discrete (r .answer) 0)
+  where
+    go : AfterCalls p rounds q → Dec (r .answer ≡ 0) → AfterCalls p rounds (r .planner)
+    go before (no nonzero) = subst⁻¹ (AfterCalls p rounds) (refused-change is nonzero) before
+    go before (yes zero) =
+        let w = success-change is zero in
+        (w .sound, subst⁻¹ (λ (c : Content). Follows (quiet (content p)) rounds (quiet c)) (w .holds) (before .1))
 calls-follow p sound (refused {rounds} calls before after r is nonzero) =
     subst⁻¹ (AfterCalls p rounds) (refused-round is nonzero .planner) (calls-follow p sound calls)
 calls-follow p sound (held {rounds} {q} calls before after r is zero) =
     let w = success-round is zero in
-    let ih = calls-follow p sound calls in (
+    let ih = calls-follow p sound calls in
+    let h = quiet (content q) in (
       w .planner .sound,
-      subst⁻¹ (Follows (content p) (rounds ++ (held-round r after ∷ []))) (w .planner .holds)
-          (subst⁻¹ (λ (x : HeldRound). Follows (content p) (rounds ++ (x ∷ [])) (rounded (content q) (r .start))) (held-is-lazy q before after r w)
-          (one-round (content p) rounds (content q) (ih .1) (ih .0 .content-sound) (r .start) (w .start))),
+      subst⁻¹ (λ (c : Content). Follows (quiet (content p)) (rounds ++ (held-round r after ∷ [])) (quiet c)) (w .planner .holds)
+          (subst⁻¹ (λ (x : HeldRound). Follows (quiet (content p)) (rounds ++ (x ∷ [])) (rounded h (r .start))) (held-is-lazy q (ih .0) before after r w)
+          (one-round (quiet (content p)) rounds h (ih .1) (quiet-sound (ih .0 .content-sound)) (r .start) (w .start))),
     )
 
--- once a round was refused with 17, the start stays late: nothing changes the planner any more
+-- once a round was refused with 17, the start stays late: nothing but sends changes the planner any more, and these bring no round forward
 pub clock-stays : {p : Planner} {rounds : List HeldRound} {q : Planner} → (calls : Calls p rounds q) → ClockEnded calls → StartsLate q
 unfolding ClockEnded
 clock-stays none ended = absurd ended
 clock-stays (asked calls call r is nonzero) ended = subst⁻¹ StartsLate (refused-change is nonzero) (clock-stays calls ended)
+clock-stays (sent {q = q} calls n r is) ended = go (clock-stays calls ended) (ℕ-discrete (r .answer) 0)
+  where
+    go : StartsLate q → Dec (r .answer ≡ 0) → StartsLate (r .planner)
+    go late (no nonzero) = subst⁻¹ StartsLate (refused-change is nonzero) late
+    go late (yes zero) =
+        let was-sound = sent-is-sound q n (sym (is .answer) ∙ zero) in
+        λ _ x start. late was-sound x (subst (λ (h : Content). IsStart h x) (success-change is zero .holds) start)
 clock-stays (refused {q} calls before after r is nonzero) ended =
     subst⁻¹ StartsLate (refused-round is nonzero .planner)
     (⊎-elim (λ seventeen. seventeen-is-late q before (sym (is .answer) ∙ seventeen)) (λ earlier. clock-stays calls earlier) ended)

@@ -4,6 +4,7 @@ use mathlib.Core.List.{List}
 use Prim.Native.Nat.{ℕ}
 use Rattle.planner.specs.Open.{zeros, opened, IsFresh, IsOpened}
 use Rattle.planner.specs.AddRemove.{IsAdd, IsRemove}
+use Rattle.planner.specs.Send.{IsSend}
 use Rattle.planner.specs.Round.{IsRound}
 use Rattle.planner.specs.Facts.Open.{open-success-is-sound, closed-is-not-sound}
 use Rattle.planner.specs.Facts.Calls.{answers-first, refused-change, change-keeps-sound, refused-round, round-keeps-sound}
@@ -12,7 +13,7 @@ use Rattle.planner.specs.declared.Planner.{Planner}
 use Rattle.planner.specs.declared.Offer.{Offer}
 use Rattle.planner.specs.declared.Changed.{Changed}
 use Rattle.planner.specs.declared.Rounded.{Rounded}
-use Rattle.demands.specs.One.{OpenMeets, AddMeets, RemoveMeets, RoundMeets, Demand1}
+use Rattle.demands.specs.One.{OpenMeets, AddMeets, RemoveMeets, SendMeets, RoundMeets, Demand1}
 use Rattle.demands.specs.Facts.OtherCalls.{other-calls-meet}
 
 -- open, of what it hands back
@@ -27,27 +28,32 @@ open-meets-it s t r is =
       not-sound = λ nonzero. closed-is-not-sound (r .planner) (refused nonzero);
     }
 
--- add, remove and round likewise
+-- add, remove, send and round likewise
 add-meets-it : (p : Planner) (o : Offer) (r : Changed) → IsAdd p o r → AddMeets p o r
 add-meets-it p o r is = record { answer = answers-first (is .answer); unchanged = refused-change is; sound = change-keeps-sound is }
 
 remove-meets-it : (p : Planner) (id : ℕ) (r : Changed) → IsRemove p id r → RemoveMeets p id r
 remove-meets-it p id r is = record { answer = answers-first (is .answer); unchanged = refused-change is; sound = change-keeps-sound is }
 
+send-meets-it : (p : Planner) (n : ℕ) (r : Changed) → IsSend p n r → SendMeets p n r
+send-meets-it p n r is = record { answer = answers-first (is .answer); unchanged = refused-change is; sound = change-keeps-sound is }
+
 round-meets-it : (p : Planner) (before after : List ℕ) (r : Rounded) → IsRound p before after r → RoundMeets p before after r
 round-meets-it p before after r is = record { answer = answers-first (is .answer); unchanged = refused-round is; sound = round-keeps-sound is }
 
--- Annex 12.2, 12.3: the contracts of all calls meet demand 1: of the four, over a lent planner the same, and of the others
+-- Annex 12.2, 12.3: the contracts of all calls meet demand 1: of the five, over a lent planner the same, and of the others
 pub demand-1 : Demand1
 demand-1 =
     record {
       open-meets = open-meets-it;
       add-meets = add-meets-it;
       remove-meets = remove-meets-it;
+      send-meets = send-meets-it;
       round-meets = round-meets-it;
       lent-open-meets = λ s t after r is. open-meets-it s t (record { answer = r; planner = after }) is;
       lent-add-meets = λ before o after r is. add-meets-it before o (record { answer = r; planner = after }) is;
       lent-remove-meets = λ before id after r is. remove-meets-it before id (record { answer = r; planner = after }) is;
+      lent-send-meets = λ before n after r is. send-meets-it before n (record { answer = r; planner = after }) is;
       lent-round-meets = λ before buffer written after r is.
           round-meets-it before buffer written (record { answer = r .answer; planner = after; start = r .start; n = r .n }) is;
       others = other-calls-meet;

@@ -16,22 +16,25 @@ use Rattle.planner.specs.Sound.{Sound}
 use Rattle.planner.specs.Open.{opened}
 use Rattle.planner.specs.Facts.Open.{open-success-is-sound}
 use Rattle.planner.specs.AddRemove.{added, removed, IsChange}
-use Rattle.planner.specs.Round.{rounded}
+use Rattle.planner.specs.Send.{posted}
+use Rattle.planner.specs.Round.{left-at}
 use Rattle.planner.specs.Facts.Calls.{change-keeps-sound, round-keeps-sound}
 use Rattle.planner.specs.declared.Planner.{Planner}
 use Rattle.planner.specs.declared.Changed.{Changed}
-use Rattle.demands.specs.Facts.TestedCases.{open-test, open-succeeds, add-test, add-answered, remove-test, remove-answered, after-change, change-leaves}
+use Rattle.demands.specs.Facts.TestedCases.{open-test, open-succeeds, add-test, add-answered, remove-test, remove-answered}
+use Rattle.demands.specs.Facts.TestedCases.{send-test, send-answered, after-change, change-leaves}
 use Rattle.demands.specs.Facts.TestedCases.{held-test, late-test, round-held, round-late}
-use Rattle.demands.specs.Cases.{Line, add-gives, remove-gives, round-gives, round-refused, Answers, Case, planner-case, superframe-case, Holds}
-use Rattle.demands.specs.Cases.{starred, later}
+use Rattle.demands.specs.Cases.{Line, add-gives, remove-gives, send-gives, round-gives, round-refused, Answers}
+use Rattle.demands.specs.Cases.{Case, planner-case, superframe-case, Holds, starred, later, with-messages}
 
 -- a test of the lines, by what the planner holds
 unfoldable lines-test : Content → List Line → Bool
-unfolding add-test remove-test without-id held-test late-test after-round
+unfolding add-test remove-test without-id send-test held-test late-test after-round
 lines-test h [] = true
 lines-test h (add-gives o answer ∷ lines) = add-test h o answer && lines-test (after-change h (added h o) answer) lines
 lines-test h (remove-gives id answer ∷ lines) = remove-test h id answer && lines-test (after-change h (removed h id) answer) lines
-lines-test h (round-gives start n ids ∷ lines) = held-test h start n ids && lines-test (rounded h start) lines
+lines-test h (send-gives n answer ∷ lines) = send-test h n answer && lines-test (after-change h (posted h n) answer) lines
+lines-test h (round-gives start n numbers ∷ lines) = held-test h start n numbers && lines-test (left-at h start) lines
 lines-test h (round-refused answer ∷ lines) = (eqb 17 answer && late-test h) && lines-test h lines
 
 -- after a change with this answer the other lines go on from what it leaves
@@ -53,10 +56,14 @@ tested-lines (remove-gives id answer ∷ lines) p sound tested =
     let left = after-change (content p) (removed (content p) id) answer in
     let split : So (remove-test (content p) id answer) × So (lines-test left lines) = both tested in
     λ r is. go-on lines (tested-lines lines) sound is answer (remove-answered p sound id answer (split .0) r is) (split .1)
-tested-lines (round-gives start n ids ∷ lines) p sound tested =
-    let split : So (held-test (content p) start n ids) × So (lines-test (rounded (content p) start) lines) = both tested in
+tested-lines (send-gives n answer ∷ lines) p sound tested =
+    let left = after-change (content p) (posted (content p) n) answer in
+    let split : So (send-test (content p) n answer) × So (lines-test left lines) = both tested in
+    λ r is. go-on lines (tested-lines lines) sound is answer (send-answered p sound n answer (split .0) r is) (split .1)
+tested-lines (round-gives start n numbers ∷ lines) p sound tested =
+    let split : So (held-test (content p) start n numbers) × So (lines-test (left-at (content p) start) lines) = both tested in
     λ before after r long is.
-    let (answers, leaves) = round-held p sound before after r long is start n ids (split .0) in
+    let (answers, leaves) = round-held p sound before after r long is start n numbers (split .0) in
     (answers, tested-lines lines (r .planner) (round-keeps-sound is sound) (subst⁻¹ (λ (h : Content). So (lines-test h lines)) leaves (split .1)))
 tested-lines (round-refused answer ∷ lines) p sound tested =
     let split : So (eqb 17 answer && late-test (content p)) × So (lines-test (content p) lines) = both tested in
@@ -107,3 +114,8 @@ starred-hold c m = tested-case c (tested-cases starred refl c m)
 pub later-hold : (c : Case) → List·Mem c later → Holds c
 unfolding later all-test
 later-hold c m = tested-case c (tested-cases later refl c m)
+
+-- Annex 12.21: each case of the third table holds.
+pub with-messages-hold : (c : Case) → List·Mem c with-messages → Holds c
+unfolding with-messages all-test
+with-messages-hold c m = tested-case c (tested-cases with-messages refl c m)

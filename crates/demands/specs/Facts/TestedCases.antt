@@ -24,14 +24,15 @@ use Rattle.planner.specs.Facts.Sound.{all-formed, fits-now, frame-is-busy}
 use Rattle.planner.specs.Open.{open-refusals}
 use Rattle.planner.specs.declared.Offer.{Offer}
 use Rattle.planner.specs.AddRemove.{added, unsound, offer-refusals, breaks-demand, breaks-start, not-held, IsChange, IsAdd, IsRemove}
-use Rattle.planner.specs.Round.{ids-at, rounded, IsRound}
+use Rattle.planner.specs.Send.{no-message, mail-full, IsSend}
+use Rattle.planner.specs.Round.{listed-at, left-at, IsRound}
 use Rattle.planner.specs.Start.{IsStart}
 use Rattle.planner.specs.Facts.Calls.{refused-change, success-change, refused-round, success-round, held-exactly, seventeen-exactly}
 use Rattle.planner.specs.declared.Setting.{Setting}
 use Rattle.planner.specs.declared.Planner.{Planner}
 use Rattle.planner.specs.declared.Changed.{Changed}
 use Rattle.planner.specs.declared.Rounded.{Rounded}
-use Rattle.demands.specs.Facts.Held.{ids-written}
+use Rattle.demands.specs.Facts.Written.{written}
 
 all-so : {a b : Bool} → So a → So b → So (a && b)
 all-so {a} {b} one other = and-eq-true-iff a b .1 (one, other)
@@ -150,6 +151,19 @@ remove-answered p sound id answer tested r is =
     ∙ answer-later (unsound p) (not-held id (content p) ∷ []) (λ fails. fails sound)
     ∙ eqb-true (answer-of (not-held id (content p) ∷ [])) answer tested
 
+-- a send gets this answer
+unfoldable pub send-test : Content → ℕ → ℕ → Bool
+unfolding answer-of decLe ℕ-discrete Dec·and Dec·not
+send-test h n answer = eqb (answer-of (no-message n h ∷ mail-full h ∷ [])) answer
+
+-- where the test is passed, send on a sound planner gives the answer that was tested
+pub send-answered : (p : Planner) → Sound p → (n answer : ℕ) → So (send-test (content p) n answer) → (r : Changed) → IsSend p n r → r .answer ≡ answer
+unfolding send-test
+send-answered p sound n answer tested r is =
+    is .answer
+    ∙ answer-later (unsound p) (no-message n (content p) ∷ mail-full (content p) ∷ []) (λ fails. fails sound)
+    ∙ eqb-true (answer-of (no-message n (content p) ∷ mail-full (content p) ∷ [])) answer tested
+
 -- what a planner that held h holds after this answer to a change that would have left `changed`
 abbrev pub after-change : Content → Content → ℕ → Content
 after-change h changed answer = cond (eqb answer 0) changed h
@@ -175,26 +189,26 @@ start-in-is-start h sound =
     lazy-start-is-lazy (slots-of h) (cap-of h) (streams-in h) (now-of h) (fits-now h sound) (sound .in-range .setting .slots .0) (frame-of h)
     (first-due (streams-in h)) (all-formed h sound) (frame-is-busy h sound) (first-due-is-first (streams-in h) (all-formed h sound))
 
--- the same ids in the same order
-unfoldable pub same-ids : List ℕ → List ℕ → Bool
-same-ids [] [] = true
-same-ids [] (y ∷ ys) = false
-same-ids (x ∷ xs) [] = false
-same-ids (x ∷ xs) (y ∷ ys) = eqb x y && same-ids xs ys
+-- the same numbers in the same order
+unfoldable pub same-numbers : List ℕ → List ℕ → Bool
+same-numbers [] [] = true
+same-numbers [] (y ∷ ys) = false
+same-numbers (x ∷ xs) [] = false
+same-numbers (x ∷ xs) (y ∷ ys) = eqb x y && same-numbers xs ys
 
-tested-ids : (xs ys : List ℕ) → So (same-ids xs ys) → xs ≡ ys
-unfolding same-ids
-tested-ids [] [] tested = refl
-tested-ids [] (y ∷ ys) tested = absurd (true≢false (sym tested))
-tested-ids (x ∷ xs) [] tested = absurd (true≢false (sym tested))
-tested-ids (x ∷ xs) (y ∷ ys) tested =
-    let split : So (eqb x y) × So (same-ids xs ys) = both tested in
-    λ i. eqb-true x y (split .0) i ∷ tested-ids xs ys (split .1) i
+tested-numbers : (xs ys : List ℕ) → So (same-numbers xs ys) → xs ≡ ys
+unfolding same-numbers
+tested-numbers [] [] tested = refl
+tested-numbers [] (y ∷ ys) tested = absurd (true≢false (sym tested))
+tested-numbers (x ∷ xs) [] tested = absurd (true≢false (sym tested))
+tested-numbers (x ∷ xs) (y ∷ ys) tested =
+    let split : So (eqb x y) × So (same-numbers xs ys) = both tested in
+    λ i. eqb-true x y (split .0) i ∷ tested-numbers xs ys (split .1) i
 
--- the start is s, the clock reaches it, and its slots are these n ids
+-- the start is s, the clock reaches it, and these n numbers are listed
 unfoldable pub held-test : Content → ℕ → ℕ → List ℕ → Bool
-unfolding start-in same-ids slots in-order put-in-order goes-before riders Dec·and as-streams
-held-test h s n ids = (eqb (start-in h) s && leb s last-start) && (eqb (length ids) n && same-ids (ids-at h s) ids)
+unfolding start-in same-numbers slots in-order put-in-order goes-before riders Dec·and as-streams
+held-test h s n ids = (eqb (start-in h) s && leb s last-start) && (eqb (length ids) n && same-numbers (listed-at h s) ids)
 
 -- the start is after the last one
 unfoldable pub late-test : Content → Bool
@@ -202,22 +216,22 @@ unfolding start-in
 late-test h = ltb last-start (start-in h)
 
 module _ (p : Planner) (sound : Sound p) (before after : List ℕ) (r : Rounded) (long : p .setting .slots ≤ length before) (is : IsRound p before after r) where
-  -- where the test is passed, a round on a sound planner is held at s with these n ids, and the planner then holds what a round at s leaves
+  -- where the test is passed, a round on a sound planner is held at s with these n numbers, and the planner then holds what a round at s leaves
   pub round-held : (s n : ℕ) (ids : List ℕ) → So (held-test (content p) s n ids)
-      → ((r .answer ≡ 0) × (r .start ≡ s) × (r .n ≡ n) × (take (r .n) after ≡ ids)) × (content (r .planner) ≡ rounded (content p) s)
+      → ((r .answer ≡ 0) × (r .start ≡ s) × (r .n ≡ n) × (take (r .n) after ≡ ids)) × (content (r .planner) ≡ left-at (content p) s)
   unfolding held-test
   round-held s n ids tested =
       let h = content p in
-      let split : So (eqb (start-in h) s && leb s last-start) × So (eqb (length ids) n && same-ids (ids-at h s) ids) = both tested in
+      let split : So (eqb (start-in h) s && leb s last-start) × So (eqb (length ids) n && same-numbers (listed-at h s) ids) = both tested in
       let at : So (eqb (start-in h) s) × So (leb s last-start) = both (split .0) in
-      let places : So (eqb (length ids) n) × So (same-ids (ids-at h s) ids) = both (split .1) in
+      let places : So (eqb (length ids) n) × So (same-numbers (listed-at h s) ids) = both (split .1) in
       let start : IsStart h s = subst (IsStart h) (eqb-true (start-in h) s (at .0)) (start-in-is-start h (sound .content-sound)) in
       let zero = is .answer ∙ held-exactly p before sound long s start .1 (leb-true s last-start (at .1)) in
       let w = success-round is zero in
       let same : r .start ≡ s = lazy-unique (slots-of h) (cap-of h) (streams-in h) (r .start) s (w .start) start in
-      let written : ids-at h (r .start) ≡ ids = ap (ids-at h) same ∙ tested-ids (ids-at h s) ids (places .1) in (
-        (zero, same, w .n ∙ ap length written ∙ eqb-true (length ids) n (places .0), ids-written p before after r w ∙ written),
-        w .planner .holds ∙ ap (rounded h) same,
+      let listed : listed-at h (r .start) ≡ ids = ap (listed-at h) same ∙ tested-numbers (listed-at h s) ids (places .1) in (
+        (zero, same, w .n ∙ ap length listed ∙ eqb-true (length ids) n (places .0), written p before after r w ∙ listed),
+        w .planner .holds ∙ ap (left-at h) same,
       )
 
   -- where the test of a late start is passed, it is answered 17, and the planner stays as it was

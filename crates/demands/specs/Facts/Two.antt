@@ -2,10 +2,10 @@
 use mathlib.Core.Path.{_≡_, refl, sym, ap, subst⁻¹, _∙_}
 use mathlib.Core.Logic.{_⊎_, inl, inr, _↔_, Or·inl, Or·inr, Or·elim}
 use mathlib.Core.HLevel.{⊥-prop}
-use mathlib.Core.List.{List, [], _∷_, map, map-map}
-use Prim.Native.Nat.{ℕ, _≤_, _<_}
+use mathlib.Core.List.{List, [], _∷_, _++_, map, map-map}
+use Prim.Native.Nat.{ℕ, _-_, _≤_, _<_}
 use native.Mathlib.Omega.{arith}
-use lib.ListN.{length, length-map}
+use lib.ListN.{length, take, drop, length-map}
 use Rattle.basics.specs.Refusals.{answer-of}
 use Rattle.basics.specs.Facts.Refusals.{answer-first, answer-later}
 use Rattle.basics.specs.Limits.{last-start}
@@ -21,7 +21,7 @@ use Rattle.planner.specs.Sound.{Sound}
 use Rattle.planner.specs.Facts.Sound.{content-table, sound-start, due-after-now}
 use Rattle.planner.specs.declared.Offer.{Offer}
 use Rattle.planner.specs.AddRemove.{offered, added, breaks-demand, breaks-start, add-refusals, IsWellFormed, IsSoundWith, IsAdd}
-use Rattle.planner.specs.Round.{IsHeldRound, IsRound}
+use Rattle.planner.specs.Round.{ids-at, listed-at, IsHeldRound, IsRound}
 use Rattle.planner.specs.Start.{IsStart}
 use Rattle.planner.specs.Facts.Table.{put-is-table, put-due-after}
 use Rattle.planner.specs.Facts.Calls.{success-change, success-round, held-exactly, seventeen-exactly, empty-start, empty-slots}
@@ -30,10 +30,10 @@ use Rattle.planner.specs.Facts.ServedTable.{due-after-start}
 use Rattle.planner.specs.declared.Planner.{Planner}
 use Rattle.planner.specs.declared.Changed.{Changed}
 use Rattle.planner.specs.declared.Rounded.{Rounded}
-use Rattle.demands.specs.Facts.Held.{ids-written}
+use Rattle.demands.specs.Facts.Written.{written}
 use Rattle.demands.specs.Two.{WritesSlots, RoundIsAtCap, ServableTogether, ServableFromNow, AddIsExact, Demand2}
 
--- a held round writes the ids of the first B packets that may ride
+-- a held round writes the ids of the first packets that may ride, as many as there are slots for streams, and behind them messages
 held-writes-slots : (p : Planner) → Sound p → (before after : List ℕ) (r : Rounded) → IsHeldRound p before after r → WritesSlots p after r
 held-writes-slots p sound before after r held =
     let h = content p in
@@ -43,8 +43,13 @@ held-writes-slots p sound before after r held =
       are-slots =
           slots-are-first (r .start) (streams-in h) (content-table h (sound .content-sound)) (due-after-start h (sound .content-sound) (r .start) (held .start))
           (slots-of h);
-      n = held .n ∙ simp length-map;
-      ids = ids-written p before after r held ∙ sym (map-map (λ (q : Packet). q .number) (λ (x : Stream). packet x 0) chosen);
+      listed =
+          let same-ids : ids-at h (r .start) ≡ map (λ (q : Packet). q .number) (map (λ (x : Stream). packet x 0) chosen) =
+          sym (map-map (λ (q : Packet). q .number) (λ (x : Stream). packet x 0) chosen) in
+          let as-many : length (ids-at h (r .start)) ≡ length (map (λ (x : Stream). packet x 0) chosen) =
+          length-map chosen (λ (x : Stream). x .number) ∙ sym (length-map chosen (λ (x : Stream). packet x 0)) in
+          written p before after r held ∙ (λ i. same-ids i ++ take (h .setting .slots - as-many i) (h .waiting));
+      n = ap (length {A = ℕ}) (written p before after r held) ∙ sym (held .n);
     }
 
 module _ (p : Planner) (sound : Sound p) (before after : List ℕ) (long : content p .setting .slots ≤ length before)
@@ -62,14 +67,17 @@ module _ (p : Planner) (sound : Sound p) (before after : List ℕ) (long : conte
       let cap = empty-start h empty (sound .content-sound) in
       let at-cap : (zero : r .answer ≡ 0) → r .start ≡ cap-of h =
       λ zero. lazy-unique (slots-of h) (cap-of h) (streams-in h) (r .start) (cap-of h) (success-round is zero .start) cap in
-      let none : (zero : r .answer ≡ 0) → r .n ≡ 0 = λ zero. success-round is zero .n ∙ ap (length {A = ℕ}) (empty-slots h empty (r .start)) in
+      let all-free : h .setting .slots - 0 ≡ h .setting .slots = omega arith in
+      let nothing : ids-at h (r .start) ≡ [] = empty-slots h empty (r .start) in
+      let messages : listed-at h (r .start) ≡ take (h .setting .slots) (h .waiting) =
+      (λ i. nothing i ++ take (h .setting .slots - length (nothing i)) (h .waiting)) ∙ ap (λ (n : ℕ). take n (h .waiting)) all-free in
       record {
         exactly = held-if (cap-of h) cap;
         seventeen = late-if (cap-of h) cap;
         start = at-cap;
-        n = none;
-        buffer = λ zero. success-round is zero .buffer ∙ rw (empty-slots h empty (r .start), none zero) refl;
-        leaves = λ zero. success-round is zero .planner .holds ∙ rw (at-cap zero, empty) refl;
+        n = λ zero. success-round is zero .n ∙ ap (length {A = ℕ}) messages;
+        buffer = λ zero. success-round is zero .buffer ∙ ap (λ (l : List ℕ). l ++ drop (r .n) before) messages;
+        leaves = λ zero. success-round is zero .planner .holds ∙ rw (nothing, all-free, at-cap zero, empty) refl;
       }
 
 -- the three outcomes of an offer, with what can be served in each

@@ -17,14 +17,14 @@ returns-2 c = decides-no (λ good. failed (c .before .is-one-to .ensures) (c .if
 returns-3 : tie.Need-returns-3
 returns-3 c = decides-no (λ good. lt-irrefl _ (lt-of-lt-of-le (c .if3 .taken) (good .count)))
 
-ids-are-good-requires : tie.Need-ids-are-good-requires
-ids-are-good-requires c κs = search needs
+numbers-are-good-requires : tie.Need-numbers-are-good-requires
+numbers-are-good-requires c κs = search needs
 
 returns-4 : tie.Need-returns-4
 returns-4 c =
     let slots = passed (c .before .before .before .is-one-to .ensures) (c .before .before .if2 .left) in
     same-as (λ ids. record { start = c .before .before .before .before .if1 .left; slots = slots; count = c .before .if3 .left; ids = ids })
-    (λ good. good .ids) (c .ids-are-good .ensures)
+    (λ good. good .ids) (c .numbers-are-good .ensures)
 
 pub are-good-spec : {M : Type 1} → statement M
 are-good-spec =
@@ -34,5 +34,5 @@ are-good-spec =
     is-one-to-requires
     returns-2
     returns-3
-    ids-are-good-requires
+    numbers-are-good-requires
     returns-4)

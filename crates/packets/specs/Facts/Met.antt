@@ -3,16 +3,15 @@ use mathlib.Core.Path.{_≡_, sym, subst, subst⁻¹, _∙_}
 use mathlib.Core.Bool.{Bool, true}
 use mathlib.Core.Logic.{Or·elim}
 use mathlib.Core.HLevel.{⊥-prop}
-use mathlib.Core.List.{List, [], _∷_, _++_, List·Mem, List·Mem-prop, List·Nodup}
+use mathlib.Core.List.{List, [], _∷_, _++_, List·Mem, List·Mem-prop}
 use mathlib.Core.List.{nodup-nil, nodup-append, nodup-cons, mem-append, mem-append-left, mem-append-right, eq-or-mem-of-mem-cons, mem-cons-self, not-mem-nil}
 use Prim.Native.Nat.{ℕ, _+_, _%_, _<_}
 use native.Mathlib.Numerals.{add-one}
 use native.Mathlib.Decide.{ℕ-discrete}
 use lib.ListN.{length, getD, take}
-use lib.Seq.{take-suc, split-at}
+use lib.Seq.{take-suc}
 use Rattle.basics.specs.Decides.{Decides}
 use Rattle.basics.specs.Facts.Decides.{decides-yes, same-as}
-use Rattle.basics.specs.Facts.Members.{getD-mem}
 use Rattle.basics.specs.Limits.{largest-id}
 use Rattle.basics.specs.OneTo.{OneTo}
 use Rattle.bits.specs.Bits.{InWords, IsWordsWith}
@@ -34,24 +33,28 @@ earlier ids x y other m =
     Or·elim List·Mem-prop (mem-append .0 m) (λ before. before)
     (λ last. Or·elim List·Mem-prop (eq-or-mem-of-mem-cons last) (λ same. absurd (other same)) (λ none. absurd (not-mem-nil none)))
 
+-- what holds of all in a list and of one more holds of all with that one at the end
+pub all-with : (P : ℕ → Type 0) (ids : List ℕ) (x : ℕ) → ((y : ℕ) → List·Mem y ids → P y) → P x → (y : ℕ) → List·Mem y (ids ++ (x ∷ [])) → P y
+all-with P ids x each last y m = go (ℕ-discrete y x)
+  where
+    go : Dec (y ≡ x) → P y
+    go (yes same) = subst⁻¹ P same last
+    go (no other) = each y (earlier ids x y other m)
+
 -- one id more that is in range and not there yet
 pub one-more-good : (ids : List ℕ) (x : ℕ) → IdsGood ids → OneTo largest-id x → (List·Mem x ids → ⊥) → IdsGood (ids ++ (x ∷ []))
 one-more-good ids x good range new =
     record {
-      range = λ y m. in-range y m (ℕ-discrete y x);
+      range = all-with (λ (y : ℕ). OneTo largest-id y) ids x (good .range) range;
       once = nodup-append .1 (good .once, nodup-cons .1 (not-mem-nil, nodup-nil), apart);
     }
   where
-    in-range : (y : ℕ) → List·Mem y (ids ++ (x ∷ [])) → Dec (y ≡ x) → OneTo largest-id y
-    in-range y m (yes same) = subst⁻¹ (λ (z : ℕ). OneTo largest-id z) same range
-    in-range y m (no other) = good .range y (earlier ids x y other m)
-
     apart : (y : ℕ) → List·Mem y ids → List·Mem y (x ∷ []) → ⊥
     apart y m last =
         Or·elim ⊥-prop (eq-or-mem-of-mem-cons last) (λ same. new (subst (λ (z : ℕ). List·Mem z ids) same m)) not-mem-nil
 
 -- the ids before the next place are those before a place, and the one there
-next-taken : (ids : List ℕ) (i : ℕ) → i < length ids → take (i + 1) ids ≡ take i ids ++ (getD ids i 0 ∷ [])
+pub next-taken : (ids : List ℕ) (i : ℕ) → i < length ids → take (i + 1) ids ≡ take i ids ++ (getD ids i 0 ∷ [])
 next-taken ids i inside = rw add-one (take-suc ids i 0 inside)
 
 -- one id more is met where it is in range, stands at no earlier place, and the set gets its remainder by 1,024
@@ -62,21 +65,8 @@ one-more-met ids i {words} {after} inside met range new put =
     (record {
       size = put .size ∙ met .size;
       good = one-more-good (take i ids) (getD ids i 0) (met .good) range new;
-      all = λ y m. is-in y m (ℕ-discrete y (getD ids i 0));
+      all = all-with (λ (y : ℕ). InWords after (y % 1024)) (take i ids) (getD ids i 0) (λ y m. put .kept (y % 1024) (met .all y m)) (put .here);
     })
-  where
-    is-in : (y : ℕ) → List·Mem y (take i ids ++ (getD ids i 0 ∷ [])) → Dec (y ≡ getD ids i 0) → InWords after (y % 1024)
-    is-in y m (yes same) = subst⁻¹ (λ (z : ℕ). InWords after (z % 1024)) same (put .here)
-    is-in y m (no other) = put .kept (y % 1024) (met .all y (earlier (take i ids) (getD ids i 0) y other m))
-
--- good ids are in range at every place
-pub good-at : (ids : List ℕ) (i : ℕ) → IdsGood ids → i < length ids → OneTo largest-id (getD ids i 0)
-good-at ids i good inside = good .range (getD ids i 0) (getD-mem ids i 0 inside)
-
--- and at none stands one that stands before it
-pub good-is-new : (ids : List ℕ) (i : ℕ) → IdsGood ids → i < length ids → List·Mem (getD ids i 0) (take i ids) → ⊥
-good-is-new ids i good inside before =
-    nodup-append .0 (subst List·Nodup (split-at ids i 0 inside) (good .once)) .2 (getD ids i 0) before mem-cons-self
 
 -- whether an id stands before the next place: it stands at this one
 pub found-at : (ids : List ℕ) (j x : ℕ) {next : Bool} → j < length ids → getD ids j 0 ≡ x → next ≡ true → Decides next (List·Mem x (take (j + 1) ids))

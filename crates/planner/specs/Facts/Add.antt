@@ -180,6 +180,6 @@ pub taken-in : {p : Planner} {o : Offer} → CanAdd p o
     → {queue : Queue} → HasEntries queue (put (entry-of (offered o)) (entries (p .queue)))
     → IsSoundWith (added (content p) o) (stored p (p .last) table queue)
 taken-in {p} {o} can has filed =
-    is-sound-with p (p .last) has
+    is-sound-with p (can .can-test .sound .waiting-count) (p .last) has
     (added-sound (content p) (can .can-test .sound .content-sound) o (can .can-test .formed) (can .demand-rule) (can .start-rule)) filed
     (files-inserted (entries (p .queue)) (content p .table) (offered o) (can .can-test .sound .files))

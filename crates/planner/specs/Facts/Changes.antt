@@ -2,9 +2,10 @@
 use mathlib.Core.Path.{_≡_, refl, sym, ap, subst⁻¹, _∙_}
 use mathlib.Core.Logic.{Dec·not-not}
 use mathlib.Core.List.{List, [], _∷_}
-use Prim.Native.Nat.{ℕ}
+use Prim.Native.Nat.{ℕ, _≤_}
 use native.Mathlib.Nat.{lt-irrefl}
 use native.Mathlib.Omega.{arith}
+use Rattle.basics.specs.Limits.{most-waiting}
 use Rattle.basics.specs.Refusals.{Refusal, answer-of}
 use Rattle.basics.specs.Facts.Refusals.{answer-zero}
 use Rattle.table.specs.Table.{records-of}
@@ -25,16 +26,17 @@ use Rattle.planner.specs.Needs.{stored}
 use Rattle.planner.specs.declared.Planner.{Planner}
 
 -- a planner with a table of streams that make it sound, and with a queue that files them, is sound
-pub is-sound-with : (p : Planner) (last : ℕ) {rs : List Record} {table : Table} → HasRecords rs table
+pub is-sound-with : (p : Planner) → p .waiting .count ≤ most-waiting → (last : ℕ) {rs : List Record} {table : Table} → HasRecords rs table
     → ContentSound (with-table (with-last (content p) last) rs) → {queue : Queue} {es : List Entry} → HasEntries queue es → Files es rs
     → IsSoundWith (with-table (with-last (content p) last) rs) (stored p last table queue)
-is-sound-with p last has-records sound has-entries files =
+is-sound-with p few last has-records sound has-entries files =
     let holds = ap (with-table (with-last (content p) last)) (has-records .records) in
     record {
       holds = holds;
       sound =
           record {
             count = has-records .count;
+            waiting-count = few;
             content-sound = subst⁻¹ ContentSound holds sound;
             queue-sound = has-entries .sound;
             files = rw (has-entries .content, has-records .records) files;
@@ -68,5 +70,5 @@ module _ {p : Planner} (sound : Sound p) (id : ℕ) where
       → {queue : Queue} → HasEntries queue (without id (entries (p .queue)))
       → IsSoundWith (removed (content p) id) (stored p (p .last) table queue)
   removed-with has-records has-entries =
-      is-sound-with p (p .last) has-records (removed-sound (content p) (sound .content-sound) id) has-entries
+      is-sound-with p (sound .waiting-count) (p .last) has-records (removed-sound (content p) (sound .content-sound) id) has-entries
       (files-without (entries (p .queue)) (content p .table) id (sound .files))

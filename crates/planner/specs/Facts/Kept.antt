@@ -68,12 +68,12 @@ sent-at-release h s r = go (decMem ℕ-discrete (r .id) (ids-at h s))
 
 -- what is in range stays so with another table ..
 with-table-in-range : {h : Content} {rs : List Record} → InRange h → length rs ≤ places → RecordsInRange (h .setting .frame) rs → InRange (with-table h rs)
-with-table-in-range range = in-range-by-numbers (range-numbers range)
+with-table-in-range range few records = in-range-by-numbers (range-numbers range) few records (range .mail)
 
 -- .. and with another last start
 with-last-in-range : {h : Content} → InRange h → (s : ℕ) → s ≤ last-start → InRange (with-last h s)
 with-last-in-range range s by-last =
-    record { setting = range .setting; last = by-last; at-most = range .at-most; records = range .records }
+    record { setting = range .setting; last = by-last; at-most = range .at-most; records = range .records; mail = range .mail }
 
 module _ (h : Content) (sound : ContentSound h) where
   -- Annex 4.8: the start is not before now

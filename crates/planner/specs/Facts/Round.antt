@@ -1,24 +1,44 @@
 -- The answers of round, and what it hands back.
-use mathlib.Core.Path.{_≡_, refl, sym, ap, _∙_}
+use mathlib.Core.Path.{_≡_, refl, sym, ap, subst, _∙_}
 use mathlib.Core.List.{List, [], _∷_, _++_}
-use Prim.Native.Nat.{ℕ, _≤_, _<_}
+use Prim.Native.Nat.{ℕ, _-_, _≤_, _<_}
 use native.Mathlib.Nat.{lt-irrefl}
 use native.Mathlib.Omega.{arith}
 use lib.ListN.{length, take, drop}
 use Rattle.basics.specs.Refusals.{answer-of, none, here, later}
 use Rattle.basics.specs.Facts.Refusals.{answer-zero, first-is-answer}
 use Rattle.basics.specs.Limits.{last-start}
+use Rattle.messages.specs.Needs.{IsListing}
+use Rattle.messages.specs.declared.Listed.{Listed}
 use Rattle.planner.specs.Content.{content}
 use Rattle.planner.specs.Sound.{Sound}
 use Rattle.planner.specs.AddRemove.{unsound, IsSoundWith}
-use Rattle.planner.specs.Round.{short-buffer, late-start, round-refusals, rounded, IsRound}
+use Rattle.planner.specs.Round.{short-buffer, late-start, round-refusals, ids-at, free-at, left-at, IsRound}
+use Rattle.planner.specs.Facts.Listed.{few-listed}
 use Rattle.planner.specs.Facts.Calls.{starts-late-iff, held-is-sound, held-is-not-late}
-use Rattle.planner.specs.Needs.{CanChoose, CanServeAll, IsChosen, AreFound, IsSoundStart}
+use Rattle.planner.specs.Needs.{CanChoose, CanServeAll, IsChosen, AreFound, IsLeft, IsSoundStart}
 use Rattle.planner.specs.declared.Planner.{Planner}
 use Rattle.planner.specs.declared.slots.Chosen.{Chosen}
 
 above : (m n : ℕ) → (m < n → ⊥) → n ≤ m
 above m n not-less = omega arith
+
+module _ (p : Planner) (start : ℕ) {chosen : Chosen} (is-chosen : IsChosen (content p) start chosen)
+    {listed : Listed} (is-listed : IsListing (take (chosen .n) (chosen .placed .ids)) (p .setting .slots - chosen .n) (content p .waiting) listed)
+  where
+    -- what was listed behind the ids chosen is what the round lists
+    listed-right : IsListing (ids-at (content p) start) (free-at (content p) start) (content p .waiting) listed
+    listed-right =
+        subst (λ (n : ℕ). IsListing (ids-at (content p) start) (p .setting .slots - n) (content p .waiting) listed) (is-chosen .n)
+        (subst (λ (ids : List ℕ). IsListing ids (p .setting .slots - chosen .n) (content p .waiting) listed) (is-chosen .ids) is-listed)
+
+    -- B slots hold it
+    pub listed-fits : listed .n ≤ p .setting .slots
+    listed-fits = omega (arith, listed-right .n, few-listed (content p) start)
+
+    -- and just the others are left
+    pub left-right : IsLeft (content p) start (listed .left)
+    left-right = listed-right .left
 
 module _ {p : Planner} {start : ℕ} (test : IsSoundStart p start) where
   -- where the test of soundness gives 0, round answers 5, whatever the buffer
@@ -90,18 +110,20 @@ module _ {p : Planner} {start : ℕ} (test : IsSoundStart p start) where
         can-serve-all = record { can-choose = can-choose; by-last = early; is-chosen = is-chosen .0; are-found = is-chosen .1 }
 
         -- the round as it is held
-        pub round-held : {after : List ℕ} → after ≡ take (chosen .n) (chosen .placed .ids) ++ drop (chosen .n) buffer
-            → {q : Planner} → IsSoundWith (rounded (content p) start) q
-            → IsRound p buffer after (record { answer = 0; planner = q; start = start; n = chosen .n })
-        round-held written with-h =
+        pub round-held : {listed : Listed} → IsListing (take (chosen .n) (chosen .placed .ids)) (p .setting .slots - chosen .n) (content p .waiting) listed
+            → {after : List ℕ} → after ≡ take (listed .n) (listed .numbers) ++ drop (listed .n) buffer
+            → {q : Planner} → IsSoundWith (left-at (content p) start) q
+            → IsRound p buffer after (record { answer = 0; planner = q; start = start; n = listed .n })
+        round-held {listed} is-listed written with-h =
+            let right = listed-right p start (is-chosen .0) is-listed in
             record {
               answer = sym passed ∙ is;
               refused = λ some. absurd (some (sym is ∙ passed));
               held = λ _.
                   record {
                     start = test .start found;
-                    n = is-chosen .0 .n;
-                    buffer = written ∙ ap (λ (ids : List ℕ). ids ++ drop (chosen .n) buffer) (is-chosen .0 .ids);
+                    n = right .n;
+                    buffer = written ∙ ap (λ (l : List ℕ). l ++ drop (listed .n) buffer) (right .numbers);
                     planner = with-h;
                   };
             }

@@ -22,13 +22,15 @@ use Rattle.queue.specs.declared.Queue.{Queue}
 use Rattle.planner.specs.Content.{Content, content}
 use Rattle.planner.specs.Sound.{ContentSound, Files}
 use Rattle.planner.specs.AddRemove.{IsSoundWith}
-use Rattle.planner.specs.Round.{ids-at, rounded}
+use Rattle.planner.specs.Round.{ids-at, rounded, free-at, left-at}
 use Rattle.planner.specs.Start.{IsStart}
 use Rattle.planner.specs.Facts.Kept.{rounded-sound}
 use Rattle.planner.specs.Facts.ServedTable.{serve-all, serve-next, serve-all-slots, served-ascending, served-bounds, files-served}
 use Rattle.planner.specs.Facts.ServedTable.{bounds-served}
 use Rattle.planner.specs.Facts.Changes.{is-sound-with}
-use Rattle.planner.specs.Needs.{CanServeAll, IsFoundAt, served-planner, table-of}
+use Rattle.planner.specs.Facts.Mail.{first-gone, waits-with}
+use Rattle.planner.specs.Needs.{CanServeAll, IsFoundAt, IsLeft, served-planner, table-of}
+use Rattle.messages.specs.declared.Waiting.{Waiting}
 use Rattle.planner.specs.declared.Planner.{Planner}
 use Rattle.planner.specs.declared.slots.Chosen.{Chosen}
 
@@ -205,11 +207,14 @@ module _ {p : Planner} {s : ℕ} {chosen : Chosen} (can : CanServeAll p s chosen
               (bounds-served h sound s lazy (can .by-last) (moved-to k) k (within k more) (files-moved-to k (omega arith)) x m number);
         }
 
-    -- with all of them served and moved it is the planner after the round
-    pub all-served : {queue : Queue} → HasEntries queue (moved-to (chosen .n)) → IsSoundWith (rounded (content p) s) (served-planner p s streams queue)
-    all-served has =
-        is-sound-with p s (record { records = serving .served .records ∙ done; count = serving .served .count })
-        (rounded-sound h sound s lazy (can .by-last)) has (subst (Files (moved-to (chosen .n))) done (files-moved-to (chosen .n) (omega arith)))
+    -- with all of them served and moved, and the messages left that were not listed, it is the planner after the round
+    pub all-served : {queue : Queue} → HasEntries queue (moved-to (chosen .n)) → {left : Waiting} → IsLeft h s left
+        → IsSoundWith (left-at h s) (served-planner p s left streams queue)
+    all-served has is-left =
+        waits-with
+        (is-sound-with p (can .can-choose .sound .waiting-count) s (record { records = serving .served .records ∙ done; count = serving .served .count })
+        (rounded-sound h sound s lazy (can .by-last)) has (subst (Files (moved-to (chosen .n))) done (files-moved-to (chosen .n) (omega arith))))
+        is-left (first-gone (sound .in-range .mail) (free-at h s))
       where
         done : first-passed h s (chosen .n) ≡ rounded h s .table
         done =

@@ -9,7 +9,8 @@ use native.Mathlib.Omega.{arith}
 use lib.ListN.{length, length-take}
 use Rattle.basics.specs.Decides.{Decides}
 use Rattle.basics.specs.Facts.Decides.{same-as}
-use Rattle.basics.specs.Limits.{key-span}
+use Rattle.basics.specs.Limits.{key-span, most-slots, most-waiting}
+use Rattle.basics.specs.OneTo.{OneTo}
 use Rattle.rules.specs.Demand.{IsLazyStart}
 use Rattle.table.specs.Table.{records-of, streams-of, record-at, due-of, IsColumn}
 use Rattle.table.specs.Needs.{CanRead, CanSearch}
@@ -25,8 +26,9 @@ use Rattle.queue.specs.Interface.{Entry, row-of, FilesJust, entries, CanFile}
 use Rattle.queue.specs.InterfaceLaws.{entry-path}
 use Rattle.queue.specs.Interface
 use Rattle.queue.specs.declared.Queue.{Queue}
+use Rattle.messages.specs.Waiting.{waiting-of}
 use Rattle.planner.specs.Content.{content, now-of, cap-of, slots-of}
-use Rattle.planner.specs.Sound.{entry-of, Sound}
+use Rattle.planner.specs.Sound.{entry-of, Sound, MailInRange}
 use Rattle.planner.specs.Facts.Open.{NumbersInRange, in-range-by-numbers}
 use Rattle.planner.specs.Needs.{IsSoundStart, CanCompare, IsFiled}
 use Rattle.planner.specs.declared.Planner.{Planner}
@@ -114,9 +116,13 @@ module _ (p : Planner) (numbers : NumbersInRange (p .setting) (p .last)) (range 
         span = λ s t m n. omega (arith, late s m, range .near .due-after t n);
       }
 
+  -- the slots for streams are 1 to 64
+  few-slots : OneTo most-slots (slots-of (content p))
+  few-slots = (numbers .setting .slots .0, omega (arith, numbers .setting .slots))
+
   -- .. and the demand rule can be tested on it
   pub can-test-demand : CanTestDemand (slots-of (content p)) (p .setting .frame) (p .table)
-  can-test-demand = record { count = range .count; slots = numbers .setting .slots; frame = numbers .setting .frame; records = range .records .each }
+  can-test-demand = record { count = range .count; slots = few-slots; frame = numbers .setting .frame; records = range .records .each }
 
   module _ (busy : ℕ) (is-busy : IsBusyLength (slots-of (content p)) (streams-of (p .table)) busy) where
     -- a start can be looked for under any cap that is not before now
@@ -124,7 +130,7 @@ module _ (p : Planner) (numbers : NumbersInRange (p .setting) (p .last)) (range 
     can-find-start open-cap some =
         record {
           count = range .count;
-          slots = numbers .setting .slots;
+          slots = few-slots;
           now = (omega arith, omega (arith, numbers .last));
           cap = open-cap;
           formed = λ s m. let each = range .records .each s m in (each .deadline, each .period .1);
@@ -134,20 +140,21 @@ module _ (p : Planner) (numbers : NumbersInRange (p .setting) (p .last)) (range 
         }
 
     -- with the table in range and filed, the two rules decide
-    pub start-found : 1 ≤ busy → IsFiled (p .table) (p .queue)
+    pub start-found : p .waiting .count ≤ most-waiting → MailInRange (p .setting .messages) (waiting-of (p .waiting)) → 1 ≤ busy → IsFiled (p .table) (p .queue)
         → {cap r : ℕ} → IsNextStart (slots-of (content p)) (p .last + 1) cap (streams-of (p .table)) r → cap ≡ cap-of (content p)
         → IsSoundStart p r
-    start-found some filed {r = r} is-start is-cap =
+    start-found waiting-count mail some filed {r = r} is-start is-cap =
         record {
           unsound = λ zero sound. is-start .fails zero (sound .content-sound .start-rule);
           sound = λ found.
               record {
                 count = range .count;
+                waiting-count = waiting-count;
                 content-sound =
                     record {
                       in-range =
                           in-range-by-numbers numbers
-                          (rw length-take (omega (arith, range .count))) (range .records);
+                          (rw length-take (omega (arith, range .count))) (range .records) mail;
                       near = range .near;
                       demand-rule = is-busy .holds some;
                       start-rule = is-start .holds found;

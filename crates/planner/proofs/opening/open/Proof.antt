@@ -1,30 +1,21 @@
--- `planner::opening::open` meets its contract: refused, it gives the closed planner; else the planner asked for.
-use Rattle.planner.proofs.Refused.{open-refused, open-done}
+-- `planner::opening::open` meets its contract: the flag is the one kept of the number passed.
+use mathlib.Core.Path.{subst}
+use Prim.Native.Nat.{ℕ}
+use Rattle.planner.specs.Open.{IsOpened}
 use borrow.Author.Needs.{needs}
 use Rattle.planner.proofs.opening.open.Statement.{statement}
 use Rattle.planner.proofs.opening.open.Tie as tie
 
-open-refusal-requires : tie.Need-open-refusal-requires
-open-refusal-requires c κs = search needs
+flag-requires : tie.Need-flag-requires
+flag-requires c κs = search needs
 
-without-streams-requires : tie.Need-without-streams-requires
-without-streams-requires c κs = search needs
+open-with-requires : tie.Need-open-with-requires
+open-with-requires c κs = search needs
 
 returns : tie.Need-returns
-returns c = open-refused (c .before .before .open-refusal .ensures) (c .before .if1 .taken) (c .without-streams .ensures)
-
-without-streams-requires-2 : tie.Need-without-streams-requires-2
-without-streams-requires-2 c κs = search needs
-
-returns-2 : tie.Need-returns-2
-returns-2 c = open-done (c .before .before .open-refusal .ensures) (c .before .if1 .left) (c .without-streams2 .ensures)
+returns c =
+    let a = c .before .before .args in
+    subst (λ (on : ℕ). IsOpened (record { slots = a .slots; frame = a .frame; gap = a .gap; messages = on }) (a .last) (c .open-with .result)) (c .before .flag .ensures) (c .open-with .ensures)
 
 pub open-spec : {M : Type 1} → statement M
-open-spec =
-    tie.close
-    (tie.spec
-    open-refusal-requires
-    without-streams-requires
-    returns
-    without-streams-requires-2
-    returns-2)
+open-spec = tie.close (tie.spec flag-requires open-with-requires returns)

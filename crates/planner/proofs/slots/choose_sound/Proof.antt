@@ -7,6 +7,7 @@ use native.Mathlib.Omega.{arith}
 use lib.ListN.{length}
 use Rattle.basics.specs.Places.{IsPlaceAmong}
 use Rattle.basics.specs.Limits.{places, most-slots}
+use Rattle.planner.specs.Content.{content, slots-of}
 use Rattle.planner.specs.Facts.Choosing.{Visited, can-walk, can-look-up, none-visited, full-chosen, all-chosen, still-room, one-more-taken-in, one-more-skipped-in}
 use Rattle.planner.proofs.Shape.{planner-shape}
 use Rattle.planner.proofs.slots.choose_sound.Statement.{statement}
@@ -14,7 +15,7 @@ use Rattle.planner.proofs.slots.choose_sound.Tie as tie
 
 abbrev Inv-loop : tie.InvT-loop
 Inv-loop p start table streams order ids placed₀ rows₀ n₀ i₀ placed rows n i =
-    Visited (p .queue) table (p .setting .slots) start i (record { placed = placed; rows = rows; n = n })
+    Visited (p .queue) table (slots-of (content p)) start i (record { placed = placed; rows = rows; n = n })
 
 abbrev μ-loop : tie.MeasureT-loop
 μ-loop p start table streams order ids placed₀ rows₀ n₀ i₀ placed rows n i = table .count - i
@@ -38,6 +39,9 @@ loop-holds : tie.Need-loop-holds Inv-loop μ-loop
 loop-holds c =
     let start = c .before .before .before .before .before in
     none-visited (start .pre) (long start)
+
+sub-if2 : tie.Need-sub-if2 Inv-loop μ-loop
+sub-if2 c = omega (arith, from (c .before .before .before) .pre .sound .content-sound .in-range .setting .slots)
 
 cast-if2 : tie.Need-cast-if2 Inv-loop μ-loop
 cast-if2 c = omega (arith, from (c .before .before .before) .pre .sound .content-sound .in-range .setting .slots)
@@ -127,7 +131,7 @@ loop-again c =
     let order = at .before .before .in-order-sound in
     let row = found .place-among-rising .result in
     let in-row = subst (λ (n : ℕ). IsPlaceAmong (ids .result) n row) (found .before .wide .ensures) (found .place-among-rising .ensures) in
-    let now-visited = Visited (start .args .p .queue) (start .args .p .table) (start .args .p .setting .slots) (start .args .start) (at .loop .i + 1) in
+    let now-visited = Visited (start .args .p .queue) (start .args .p .table) (slots-of (content (start .args .p))) (start .args .start) (at .loop .i + 1) in
     ⊎-elim
     (λ w. subst⁻¹ now-visited (λ i. record { placed = w .1 i; rows = w .2 i; n = w .3 i })
     (one-more-taken-in (start .pre) (long start) (at .loop .inv) (more .if1 .taken) (order .ensures) (ids .ensures) in-row (free .if2 .left) (w .0 .taken)))
@@ -150,6 +154,7 @@ choose-sound-spec =
     in-order-sound-requires
     ids-in-range-requires
     loop-holds
+    sub-if2
     cast-if2
     returns
     mul-id

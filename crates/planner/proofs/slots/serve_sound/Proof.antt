@@ -7,7 +7,7 @@ use lib.ListN.{getD}
 use Rattle.basics.specs.Limits.{places, most-slots}
 use Rattle.planner.specs.Content.{content}
 use Rattle.planner.specs.AddRemove.{IsSoundWith}
-use Rattle.planner.specs.Round.{rounded}
+use Rattle.planner.specs.Round.{left-at}
 use Rattle.planner.specs.Needs.{CanServeAll}
 use Rattle.planner.specs.Facts.Serving.{Serving, none-served, chosen-below, row-below, can-send, one-more-served, can-move-all, all-served}
 use Rattle.planner.proofs.Shape.{planner-shape}
@@ -15,16 +15,16 @@ use Rattle.planner.proofs.slots.serve_sound.Statement.{statement}
 use Rattle.planner.proofs.slots.serve_sound.Tie as tie
 
 abbrev Inv-loop : tie.InvT-loop
-Inv-loop p start chosen streams₀ periods₀ k₀ streams periods k =
+Inv-loop p start left chosen streams₀ periods₀ k₀ streams periods k =
     CanServeAll p start chosen × (k ≤ chosen .n) × Serving p start k streams periods
 
 abbrev μ-loop : tie.MeasureT-loop
-μ-loop p start chosen streams₀ periods₀ k₀ streams periods k = chosen .n - k
+μ-loop p start left chosen streams₀ periods₀ k₀ streams periods k = chosen .n - k
 
 loop-holds : tie.Need-loop-holds Inv-loop μ-loop
 loop-holds c =
     let start = c .before .before in
-    (start .pre, omega arith, none-served (start .pre) (planner-shape (start .args .p) _ (start .good .0)) refl)
+    (start .pre .0, omega arith, none-served (start .pre .0) (planner-shape (start .args .p) _ (start .good .0)) refl)
 
 -- in a turn k is below 64, and so is the row of its stream
 turn-below : (c : tie.In-loop Inv-loop μ-loop) → c .before .loop .k < most-slots
@@ -99,8 +99,8 @@ returns : tie.Need-returns Inv-loop μ-loop
 returns c =
     let end = c .before .before .before .before in
     let start = end .before .before .before .before in
-    subst⁻¹ (IsSoundWith (rounded (content (start .args .p)) (start .args .start))) (c .after-round .ensures)
-    (all-served (end .before .loop .inv .0) (done end) (c .before .move-all-sound .ensures))
+    subst⁻¹ (IsSoundWith (left-at (content (start .args .p)) (start .args .start))) (c .after-round .ensures)
+    (all-served (end .before .loop .inv .0) (done end) (c .before .move-all-sound .ensures) (start .pre .1))
 
 pub serve-sound-spec : {M : Type 1} → statement M
 serve-sound-spec =

@@ -22,8 +22,12 @@ mod check;
 mod fast;
 #[path = "planner/growth.rs"]
 mod growth;
+#[path = "planner/host.rs"]
+mod host;
 #[path = "planner/limit.rs"]
 mod limit;
+#[path = "planner/loads.rs"]
+mod loads;
 #[path = "planner/plain.rs"]
 mod plain;
 #[path = "planner/proved.rs"]
@@ -31,37 +35,8 @@ mod proved;
 #[path = "planner/tables.rs"]
 mod tables;
 
+use host::{mixed, Host, Offer};
 use tables::{Case, Hosts};
-
-#[derive(Clone, Copy)]
-pub struct Offer {
-    pub id: u32,
-    pub start: u32,
-    pub period: u32,
-    pub deadline: u32,
-}
-
-// What all of them can do; a call answers a number that the others must answer too. What is about messages only those can that keep the bytes of a
-// planner; the algorithms of the paper have none.
-pub trait Host: Clone {
-    fn round(&mut self) -> u32;
-    fn add(&mut self, offer: Offer) -> u32;
-    fn remove(&mut self, id: u32) -> u32;
-
-    fn send(&mut self, _number: u32) -> u32 {
-        unimplemented!("no messages")
-    }
-
-    // Has 32 messages wait, whatever waited.
-    fn fill_waiting(&mut self) {
-        unimplemented!("no messages")
-    }
-}
-
-// A round's start and ids in one number.
-pub fn mixed(start: u32, ids: &[u16]) -> u32 {
-    ids.iter().fold(start, |sum, id| sum.wrapping_mul(31).wrapping_add(u32::from(*id)))
-}
 
 #[derive(Clone, Copy)]
 pub enum Call {
@@ -300,7 +275,7 @@ fn main() {
             }
             return;
         }
-        for case in &tables::all(Some(table)).first().expect("a table").cases() {
+        for case in &loads::all(Some(table)).first().expect("a table").cases() {
             count_all(&case.hosts, case.name, case.call, turns);
         }
         return;
@@ -309,14 +284,14 @@ fn main() {
         Some("growth") => return growth(),
         Some("check") => return check::check(),
         Some("tables") => {
-            for t in tables::all(None) {
+            for t in loads::all(None) {
                 println!("{:<18} slots {:>2}, gap {:>3}, busy {:>4}, periods {:?}", t.name, t.slots, t.gap, t.busy, t.periods);
             }
             return;
         }
         _ => {}
     }
-    let wanted = tables::all(words.first().map(String::as_str));
+    let wanted = loads::all(words.first().map(String::as_str));
     assert!(!wanted.is_empty(), "no such table: the word `tables` lists them");
     println!(
         "{:<18} {:>5} {:<17} {:>8} {:>8} {:>8} {:>8} {:>9} {:>8} {:>8} {:>8} {:>9}",

@@ -20,6 +20,7 @@ uint32_t arg[5];
 size_t length;
 uint8_t periods[255];
 uint8_t packet[PACKET_MOST_BYTES];
+uint8_t plan[4 * PACKET_MOST_BYTES];
 uint32_t answer;
 size_t given;
 
@@ -31,6 +32,7 @@ size_t given;
     CALL(planner_remove, planner_remove(&kept, arg[0]))                                                              \
     CALL(planner_send, planner_send(&kept, arg[0]))                                                                  \
     CALL(planner_round, planner_round(&kept, buffer, length).answer)                                                 \
+    CALL(planner_check, planner_check(&kept, plan, length).answer)                                                   \
     CALL(planner_filled, (given = planner_filled(buffer, length, arg[0]), 0u))                                       \
     CALL(superframe, superframe_answer(superframe(periods, length)))                                                 \
     CALL(packet_version, (given = packet_version(), 0u))                                                             \
@@ -98,6 +100,11 @@ static uint32_t hold(size_t places) {
     return measure(of_planner_round);
 }
 
+static void check(size_t bytes) {
+    length = bytes;
+    measure(of_planner_check);
+}
+
 static uint32_t seed = 1;
 
 static uint32_t below(uint32_t limit) {
@@ -109,20 +116,39 @@ static uint32_t below(uint32_t limit) {
  * 5 comes of the rules, which are tested last. */
 static void damaged_calls(void) {
     const struct planner good = kept;
-    for (int call = 0; call < 8; call++) {
-        if (call < 4) {
+    for (int call = 0; call < 10; call++) {
+        if (call < 5) {
             ((unsigned char *)&kept)[below(sizeof kept)] ^= (unsigned char)(1u << below(8));
         } else {
             kept.slots = 1 + kept.messages;
         }
-        switch (call % 4) {
+        switch (call % 5) {
         case 0: hold(64); break;
         case 1: add(1 + below(32767), kept.last + 1, 240, 240); break;
         case 2: take_out(kept.table.streams[0].id); break;
+        case 3: check(sizeof plan); break;
         default: send_number(32768 + below(32768)); break;
         }
         kept = good;
     }
+}
+
+/* The planner's next rounds as a plan, checked whole, cut short, with a bit turned, and with no bytes. */
+static void check_plans(void) {
+    struct planner ahead = kept;
+    size_t bytes = 0;
+    while (bytes + PACKET_MOST_BYTES <= sizeof plan) {
+        struct planner_held held = planner_round(&ahead, buffer, PLANNER_MOST_SLOTS);
+        if (packet_write(held.start, ahead.slots, buffer, held.n, plan + bytes, sizeof plan - bytes) != PACKET_OK) {
+            break;
+        }
+        bytes += PACKET_BYTES(held.n);
+    }
+    check(bytes);
+    check(bytes - 1);
+    check(0);
+    plan[below((uint32_t)bytes)] ^= (uint8_t)(1u << below(8));
+    check(bytes);
 }
 
 /* Streams of random periods that divide 5,040, calls of each kind and of each refusal between them, then the same on damaged planners. With messages
@@ -155,6 +181,7 @@ static void table(uint32_t slots, uint32_t streams, uint32_t gap, uint32_t messa
             take_out(again.id);
             add(again.id, kept.last + 1 + below(240), again.period, again.deadline);
         }
+        check_plans();
         damaged_calls();
     }
 }

@@ -31,7 +31,7 @@
 #include <stdint.h>
 
 /* Annex 10.10: the version that this header is of; packet_version() gives the library's. A program refuses a library of another one. */
-#define PACKET_VERSION 7
+#define PACKET_VERSION 8
 
 /* Annex 10.2, the layout, 6 + 2 * n bytes: bytes 0 to 3 the round's start, the most significant byte first; byte 4 the slots of a round (B); byte 5
  * n; then n ids of two bytes each, the most significant first, in the order of the round's slots: those of streams and, behind them, the numbers of
@@ -154,16 +154,16 @@ PACKET_FIELD(packet_header, n, 12);
  * What C has to keep, since nothing checks a call: the three things at the top (Annex 7.39), and a 64-bit x86 machine: the library is built for it,
  * uses its SSE2 registers, and takes size_t to be 8 bytes.
  *
- * Versions. The layout of a packet is the same in every version that has packets, 4 to 7; earlier ones have none. Versions 4 to 6 know no messages: a
+ * Versions. The layout of a packet is the same in every version that has packets, 4 to 8; earlier ones have none. Versions 4 to 6 know no messages: a
  * head with one of these answers 27 to a packet that has one, and reads every other. A program that compares packet_version() with PACKET_VERSION
  * finds out a library of another version than the header it was compiled with; libraries before 6.0.0 have no such function, and a program that calls
  * it does not link with them.
  *
- * What these calls need from outside: memset as C has it, and nothing else (`nm -u libplanner.a`, packets.o). No heap; no pointer is kept; a call
- * writes nothing but the packet that it is lent and its stack, and returns.
+ * What these calls need from outside: nothing (`nm -u libplanner.a`, packets.o). No heap; no pointer is kept; a call writes nothing but the packet
+ * that it is lent and its stack, and returns.
  *
- * Stack, in bytes, return address and memset of glibc included: packet_write 220, packet_read and packet_ids_length 744, packet_version 24 (16 of
- * each are the measuring program's). Measured on a painted stack (`bash bench/stack`), the most over packets of every n and every answer. That is
- * this build, by the compiler that built it, and no promise: measure again what is linked, and leave room above it. */
+ * Stack, in bytes, return address included: packet_write 220, packet_read and packet_ids_length 352, packet_version 24 (16 of each are the measuring
+ * program's). Measured on a painted stack (`bash bench/stack`), the most over packets of every n and every answer. That is this build, by the compiler
+ * that built it, and no promise: measure again what is linked, and leave room above it. */
 
 #endif

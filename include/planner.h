@@ -15,8 +15,11 @@
  * free, the waiting messages, first come first. One slot of each round is kept for them: the streams have a slot fewer, so that a stream may be
  * refused that fits with messages off. A message brings no round forward. examples/c/messages.c sends some.
  *
- * The order of calls: planner_open; then planner_add, planner_remove, planner_send and planner_round in any order, each on the planner as the call
- * before left it. packet_write (packets.h) makes of a round the bytes that go on air; superframe (superframe.h) helps to find a frame.
+ * Plans of others: planner_check takes packets laid end to end, whoever made them, and says whether they are a sound plan from a planner on, or which
+ * round is the first that breaks a rule. It changes nothing. examples/c/plan.c checks some.
+ *
+ * The order of calls: planner_open; then planner_add, planner_remove, planner_send, planner_round and planner_check in any order, each on the planner
+ * as the call before left it. packet_write (packets.h) makes of a round the bytes that go on air; superframe (superframe.h) helps to find a frame.
  *
  * An answer is 0, PLANNER_OK, or the number of the first refusal that applies, which has a name below; planner_text(answer) says it in words. A
  * refused add, remove, send or round changes nothing, and the same call may succeed later. A refused open leaves a closed planner, which the others
@@ -25,7 +28,7 @@
  * Three things that a caller must see to, which no call tests:
  *   1. the memory: no pointer is null and each is aligned; a planner has been written before it is lent (PLANNER_INIT will do); a buffer has the
  *      length that is passed; planner and buffer do not overlap; nobody else touches them during a call;
- *   2. the stack: a round takes some 22 kB of it, add and remove some 16 kB, send some 11 kB;
+ *   2. the stack: a round takes some 22 kB of it, add and remove some 16 kB, check some 15 kB, send some 11 kB;
  *   3. the version: it is the same in every host on a bus.
  *
  * The rest: what each call does and refuses stands at its prototype; what C has to keep, what is proved and what is not, versions, damage and stack
@@ -37,7 +40,7 @@
 #include <stdint.h>
 
 /* Annex 7.40: the version that this header is of; planner_version() gives the library's. A host refuses a library of another one. */
-#define PLANNER_VERSION 7
+#define PLANNER_VERSION 8
 
 /* The limits. */
 #define PLANNER_MOST_SLOTS 64            /* Annex 3.6: B, and so the numbers of a round; a buffer of this length is never too short */
@@ -151,6 +154,12 @@ struct planner_held {
     uint32_t n;
 };
 
+/* Annex 14.12: what a check answers: 0 and 0 of a sound plan; 0 and the number of the first round that breaks a rule, counted from 1; or 5 and 0. */
+struct planner_verdict {
+    uint32_t answer;
+    uint32_t round;
+};
+
 /* Annex 7.40: the library's version. */
 uint32_t planner_version(void);
 
@@ -169,7 +178,7 @@ uint32_t planner_add(struct planner *p, uint32_t id, uint32_t release, uint32_t 
 
 /* Annex 7.22, 7.23: takes a stream out, and its unserved packet with it. Refuses 5, and 14 where there is no such stream.
  * planner_remove(&p, 0) changes nothing, as no stream has id 0: it answers 5 if the planner is not sound, else 14; so a planner that was handed over
- * can be tested. */
+ * can be tested. planner_check with length 0 tests one that cannot be written. */
 uint32_t planner_remove(struct planner *p, uint32_t id);
 
 /* Annex 7.41 to 7.45: has a message wait behind those that wait, for a round with a slot free; the same number may wait more than once. Nothing else
@@ -189,6 +198,19 @@ struct planner_held planner_round(struct planner *p, uint16_t *buffer, size_t le
 /* Annex 7.36: how many elements of the buffer a round that answered n has filled, from its front: n, or length if n is above it. Refuses nothing.
  * After planner_round that is held.n; this call is for an n from elsewhere. */
 size_t planner_filled(const uint16_t *buffer, size_t length, uint32_t n);
+
+/* Annex 14.1 to 14.16: checks a plan of `length` bytes, packets laid end to end, a round each, which begins at this planner. Any bytes may be passed,
+ * from any maker; those of no packet, length 0, are a sound plan. Answers 0 with round 0 if every round passes; 0 with a round from 1 on if that is
+ * the first which breaks one of these rules:
+ *   1. its packet is whole and good (packets.h) and has the planner's slots;
+ *   2. it starts after the last start and at most 1 + gap after it; the last start is that of the round before, for the first one p->last;
+ *   3. it has no more stream ids than there are slots for streams, which are slots, or slots - 1 with messages on;
+ *   4. each stream id is a stream's, whose unserved packet is released at the start and due after it;
+ *   5. after it no stream, listed or not, has an unserved packet that is due by the round's end, start + 1.
+ * Message numbers are skipped, with messages off too. Not checked: the order of slots, free slots, which messages ride, and who sends them.
+ * Refuses 5, with round 0, and with no bytes too. It changes nothing and stores nothing, in the planner or in the plan, so that both may lie in
+ * memory that cannot be written. A sound plan has no miss so far; that it can go on without one is not said (Annex 14.15). */
+struct planner_verdict planner_check(const struct planner *p, const uint8_t *plan, size_t length);
 
 #ifdef __cplusplus
 }
@@ -241,6 +263,9 @@ PLANNER_SIZE(planner_held, 12);
 PLANNER_FIELD(planner_held, answer, 0);
 PLANNER_FIELD(planner_held, start, 4);
 PLANNER_FIELD(planner_held, n, 8);
+PLANNER_SIZE(planner_verdict, 8);
+PLANNER_FIELD(planner_verdict, answer, 0);
+PLANNER_FIELD(planner_verdict, round, 4);
 
 #undef PLANNER_FIELD
 #undef PLANNER_SIZE
@@ -253,30 +278,36 @@ PLANNER_FIELD(planner_held, n, 8);
  * late and that no plan needs fewer rounds, of those that have slots - 1 slots for streams where messages are on (Annex 12.4 and 12.6 to 12.13); with
  * no stream, that no plan which keeps the gap limit holds its k-th round later (Annex 7.32 and 12.14). Of messages it is proved that they leave in the
  * order in which they were sent, and one with q others ahead no later than the (q + 1)-th round held, if nobody opens between (Annex 12.28, 12.29).
+ * Of planner_check it is proved too that a plan has one verdict, and is sound exactly if every rule holds of every round (Annex 12.30); that a plan
+ * whose k-th round starts later than the planner's own k-th cannot go on for ever without a miss or a gap too long (Annex 12.31); that the planner's
+ * own rounds, as packets, are a sound plan (Annex 12.32); and that planners which hold the same get the same verdict (Annex 12.33).
  * What is said of stores, stack, symbols and machine is not proved: it is read off the source and off the library as it is built. Nor is what stands
  * in this file as C: nothing checks it against the source (Annex 13.5).
  *
  * What a call tests and stores.
- *   - open tests nothing of the planner and overwrites it, refused or not. Refused, it leaves the closed planner, which add, remove, send
- *     and round refuse with 5.
- *   - add, remove, send and round test the whole planner first and refuse with 5 one that is not sound: a value out of range, of a waiting message
- *     too, a message that waits with messages off, a rule broken, a queue that does not file the streams. That is not every damage. A planner that
- *     was damaged in memory and is still sound is accepted and used as it stands: another gap, another period or number of slots with which both
- *     rules are kept, another message, anything in a place that is free. A firmware that has to find every damage keeps a checksum beside the
- *     planner (Annex 13.7).
+ *   - open tests nothing of the planner and overwrites it, refused or not. Refused, it leaves the closed planner, which add, remove, send, round
+ *     and check refuse with 5.
+ *   - add, remove, send, round and check test the whole planner first and refuse with 5 one that is not sound: a value out of range, of a waiting
+ *     message too, a message that waits with messages off, a rule broken, a queue that does not file the streams. That is not every damage. A
+ *     planner that was damaged in memory and is still sound is accepted and used as it stands: another gap, another period or number of slots with
+ *     which both rules are kept, another message, anything in a place that is free. A firmware that has to find every damage keeps a checksum
+ *     beside the planner (Annex 13.7).
  *   - add, remove, send and round store the planner only where they answer 0, and round writes the buffer only then. A refused one writes nothing
  *     in either, so that a planner which is refused may lie in memory that cannot be written (Annex 7.37). open always writes.
+ *   - check stores nothing in planner or plan, whatever it answers (Annex 14.16).
  *
  * What C has to keep, since nothing checks a call or this file against the source (Annex 7.39):
  *   - a 64-bit x86 machine: the library is built for it, uses its SSE2 registers, and takes size_t to be 8 bytes;
  *   - the structs as they stand here, with the layout and alignment that C gives them; the assertions above test sizes and offsets;
  *   - no pointer is null, buffers of length 0 included, and each is aligned for its type;
  *   - a planner's memory has been written before it is lent (to open too: PLANNER_INIT will do), so that every byte has a value;
- *   - buffer points to `length` numbers that can be read and, for planner_round, written; length is at most the buffer's real one;
- *   - the buffer does not overlap the planner, and nobody else reads or writes either during a call;
+ *   - buffer points to `length` numbers that can be read and, for planner_round, written; length is at most the buffer's real one; plan likewise
+ *     points to `length` bytes that can be read;
+ *   - the buffer does not overlap the planner, and nobody else reads or writes either during a call; planner_check only reads, and others may read
+ *     planner and plan meanwhile;
  *   - the same version in every host on a bus (Annex 13.8).
  *
- * Versions. Hosts compare the first number, 7 of 7.0.0, which planner_version() and PLANNER_VERSION give; the other two count changes that move no
+ * Versions. Hosts compare the first number, 8 of 8.0.0, which planner_version() and PLANNER_VERSION give; the other two count changes that move no
  * answer. A host that compares planner_version() with PLANNER_VERSION finds out a library of another version than the header it was compiled with;
  * libraries before 6.0.0 have no such function, and a program that calls it does not link with them. Nothing in a planner says which version made it,
  * and no call refuses it for that (Annex 13.8).
@@ -285,14 +316,16 @@ PLANNER_FIELD(planner_held, n, 8);
  *   - Versions 1 to 6 know no messages. With messages off this version answers as version 6 does.
  *   - Versions 1 to 6 have another layout, 1 and 2 with 3,608 bytes and 3 to 6 with 3,864, where a planner now has 3,936; one that they made must be
  *     opened anew.
+ *   - Versions 1 to 7 have no planner_check, and a program that calls it does not link with them. In all else this version answers as version 7 does,
+ *     and its planners have the same layout.
  *
  * What the library needs from outside: memcpy and memset as C has them, and nothing else (`nm -u libplanner.a` lists them). A program without a C
  * library has to have its own, as examples/c/freestanding.c has. No heap; no pointer is kept, and no call writes anything but what it is lent and
  * its stack. Every call returns, if these two do and the stack is large enough; nothing tests that it is (Annex 13.9).
  *
- * Stack, in bytes, return address and memcpy and memset of glibc included: open 1,128, add 15,944, remove 15,096, send 11,208, round 21,976, filled
- * and version 24 (16 of each are the measuring program's). Measured on a painted stack (`bash bench/stack`), the most over calls of every answer on
- * two dozen tables with up to 64 streams, half of them with messages on. That is this build, by the compiler that built it, and no promise: measure
- * again what is linked, and leave room above it. */
+ * Stack, in bytes, return address and memcpy and memset of glibc included: open 1,128, add 15,944, remove 15,096, send 11,208, round 21,976, check
+ * 14,920, filled and version 24 (16 of each are the measuring program's). Measured on a painted stack (`bash bench/stack`), the most over calls of
+ * every answer on two dozen tables with up to 64 streams, half of them with messages on. That is this build, by the compiler that built it, and no
+ * promise: measure again what is linked, and leave room above it. */
 
 #endif

@@ -7,6 +7,8 @@
 //!                           of which held 0: the answer, the start, n, and
 //!                           all places
 //!   F LENGTH N              how many places such a buffer has filled
+//!   C,BYTES                 a check of the plan that these bytes are, in hex
+//!                           with blanks anywhere: C, the answer and the round
 //!   M FIELD VALUE           sets slots, frame, gap, messages, last, or the
 //!                           count of waiting messages in the planner's memory
 //!   M number PLACE VALUE    sets the waiting message at a place from 0
@@ -14,6 +16,8 @@
 //! call but O answers 5. A round's line ends in ` differs` where a place behind
 //! its n was written; no vector expects it.
 
+use crate::cases;
+use crate::checker::{self, Finding};
 use crate::planner::Planner;
 
 /// What every place of a buffer holds before a round: the one number of 16
@@ -58,6 +62,10 @@ impl Calls {
 
     /// The answer to a line, or none if it is no call.
     pub fn answer(&mut self, line: &str) -> Option<String> {
+        if let Some(plan) = line.strip_prefix("C,") {
+            let found = self.check(&cases::bytes(plan));
+            return Some(format!("C {} {}", found.answer, found.round()));
+        }
         let words: Vec<&str> = line.split([',', ' ']).collect();
         let numbers: Vec<u64> = words
             .iter()
@@ -129,6 +137,11 @@ impl Calls {
             buffer,
             differs: !left,
         }
+    }
+
+    /// Annex 14.1, 14.16: a check, which changes nothing.
+    pub fn check(&self, plan: &[u8]) -> Finding {
+        checker::find(&self.planner, plan)
     }
 
     fn set(&mut self, field: &str, values: &[u64]) -> Option<String> {

@@ -5,7 +5,7 @@
 //!   W START B LENGTH ID ..  values to be written to a buffer of that length:
 //!                           four bytes, four, two, and two an id
 //!   S BYTES                 periods for superframe, a byte each
-//! The calls on a planner, and `filled`, are in `calls`. Any other line is
+//! The calls on a planner, checks of plans and `filled` are in `calls`. Any other line is
 //! passed over.
 
 use crate::calls::Calls;
@@ -74,7 +74,7 @@ fn number(bytes: &[u8]) -> u64 {
 }
 
 /// The bytes that hex digits give, two each.
-fn bytes(text: &str) -> Vec<u8> {
+pub fn bytes(text: &str) -> Vec<u8> {
     let digits: Vec<u32> = text.chars().filter_map(|c| c.to_digit(16)).collect();
     digits
         .chunks_exact(2)
@@ -83,7 +83,7 @@ fn bytes(text: &str) -> Vec<u8> {
 }
 
 /// Two digits a byte; a dash where there is none.
-fn hex(bytes: &[u8]) -> String {
+pub fn hex(bytes: &[u8]) -> String {
     if bytes.is_empty() {
         return String::from("-");
     }

@@ -8,6 +8,10 @@
 #[allow(dead_code)]
 mod calls;
 #[allow(dead_code)]
+mod cases;
+#[allow(dead_code)]
+mod checker;
+#[allow(dead_code)]
 mod count;
 #[allow(dead_code)]
 mod generate;

@@ -1,10 +1,11 @@
-//! A second implementation of the planner, the command program and the packet
-//! on air, to test the first against: written from the owner's papers alone,
-//! before this annex (docs/ANNEX.md). The clauses that its comments give were
-//! put in afterwards.
+//! A second implementation of the planner, the command program, the packet on
+//! air and the plan checker, to test the first against: written from the
+//! owner's papers, never from the code, all but the checker before this annex
+//! (docs/ANNEX.md). The clauses that its comments give were put in afterwards.
 
 mod calls;
 mod cases;
+mod checker;
 mod count;
 mod generate;
 mod packet;

@@ -2,18 +2,19 @@
 //! scripts against a third way to the same answers, a simulation of rounds at
 //! every start.
 
+use crate::calls::Calls;
 use crate::cases;
 use crate::count::{self, Counts};
 use crate::generate;
 use crate::packet::{self, Read};
 use crate::planner::{self, Planner, Stream};
 use crate::program::{self, Program};
-use crate::random_calls::{List, Step};
+use crate::random_calls::{Check, List, Step};
 use crate::rounds::Rounds;
 use std::process::ExitCode;
 
 /// Each check by its name.
-const CHECKS: [(&str, fn() -> bool); 25] = [
+const CHECKS: [(&str, fn() -> bool); 31] = [
     ("the three rounds and the other tables on the edge", tables),
     ("figure 9 of the Blink paper", figure_9),
     ("superframe", superframes),
@@ -34,8 +35,14 @@ const CHECKS: [(&str, fn() -> bool); 25] = [
     ("the packet reader's values", packet_values),
     ("the packet writer's values", packet_writes),
     ("the packet writer's buffer", packet_buffer),
+    ("plans of the three rounds", plans),
+    ("the starts and packets of plans", plan_starts),
+    ("the slots of plans", plan_slots),
+    ("plans and messages", plan_messages),
+    ("plans of planners that are not sound", plan_refusals),
     ("generated scripts against a simulation", simulated),
     ("random calls against a simulation", simulated_calls),
+    ("random plans by counting packets", counted_plans),
     ("every answer in 20,000 generated lines", every_answer),
     ("every answer in 20,000 random calls", every_answer_of_calls),
     ("many rounds show the order and the cap", changes_shown),
@@ -568,6 +575,207 @@ fn packet_buffer() -> bool {
         && write_answer(2, 2, &[], 6) == Some(0)
 }
 
+/// What is found of a plan from the planner that some lines leave: the answer,
+/// the number of the round that breaks a rule, and the rule. A round is its
+/// start and its numbers, all packets have this B.
+fn found(lines: &str, slots: u8, rounds: &[(u32, &[u16])]) -> (u32, usize, u32) {
+    let packets = rounds.iter().map(|(start, numbers)| {
+        let n = u8::try_from(numbers.len()).expect("a byte");
+        bytes(*start, slots, n, numbers)
+    });
+    found_in(lines, &packets.collect::<Vec<_>>().concat())
+}
+
+/// The same of a plan's bytes.
+fn found_in(lines: &str, plan: &[u8]) -> (u32, usize, u32) {
+    let mut calls = Calls::new();
+    for line in lines.split(" / ") {
+        calls.answer(line);
+    }
+    let found = calls.check(plan);
+    let round = found.round();
+    let front = plan.get(..found.at).expect("bytes of the plan");
+    // Those that pass are a sound plan themselves.
+    let passed = calls.check(front);
+    let alone = (passed.answer, passed.passed, passed.rule, passed.at);
+    assert_eq!(alone, (found.answer, found.passed, 0, found.at));
+    (found.answer, round, found.rule)
+}
+
+const THREE: &str = "O,2,6,6,0 / A,1,1,3,2 / A,2,1,6,6 / A,3,2,6,5";
+
+/// Plans for the three streams of the three rounds, B = 2 and G = 6: their own
+/// rounds, earlier ones, and one rule broken.
+fn plans() -> bool {
+    let three = |rounds: &[(u32, &[u16])]| found(THREE, 2, rounds);
+    three(&[]) == (0, 0, 0)
+        && three(&[(2, &[1, 2]), (5, &[1, 3]), (8, &[1, 2])]) == (0, 0, 0)
+        && three(&[(2, &[2, 1]), (5, &[3, 1])]) == (0, 0, 0)
+        && three(&[(1, &[1, 2]), (4, &[1, 3])]) == (0, 0, 0)
+        && three(&[(2, &[1, 2]), (6, &[1, 3])]) == (0, 2, 4)
+        && three(&[(2, &[1, 2]), (5, &[3])]) == (0, 2, 5)
+        && three(&[(2, &[1, 2]), (10, &[])]) == (0, 2, 2)
+        && three(&[(2, &[2])]) == (0, 1, 5)
+        && three(&[(1, &[1, 3])]) == (0, 1, 4)
+        && three(&[(2, &[1, 9])]) == (0, 1, 4)
+        && three(&[(2, &[1, 40_000])]) == (0, 0, 0)
+        && three(&[(2, &[1, 1])]) == (0, 1, 1)
+        && found(THREE, 3, &[(2, &[1, 2])]) == (0, 1, 1)
+}
+
+/// Starts: after the last one, and up to 1 + G after it; packets cut short.
+fn plan_starts() -> bool {
+    let alone = |lines: &str, starts: &[u32]| {
+        let rounds: Vec<(u32, &[u16])> = starts.iter().map(|start| (*start, &[][..])).collect();
+        found(lines, 2, &rounds)
+    };
+    let own = [
+        bytes(2, 2, 2, &[1, 2]),
+        bytes(5, 2, 2, &[1, 3]),
+        bytes(8, 2, 2, &[1, 2]),
+    ]
+    .concat();
+    // Cut to so many bytes: 10, 20 and 30 are whole packets.
+    let cut = (0..30usize).all(|length| {
+        let broken = (0, length / 10 + 1, 1);
+        let whole = (0, 0, 0);
+        let wanted = if length % 10 == 0 { whole } else { broken };
+        found_in(THREE, &own[..length]) == wanted
+    });
+    cut && alone("O,2,6,6,10", &[11]) == (0, 0, 0)
+        && alone("O,2,6,6,10", &[10]) == (0, 1, 2)
+        && alone("O,2,6,6,10", &[17, 24, 31]) == (0, 0, 0)
+        && alone("O,2,6,6,10", &[18]) == (0, 1, 2)
+        && alone("O,2,6,6,10", &[17, 17]) == (0, 2, 2)
+        && alone("O,2,6,6,10", &[17, 16]) == (0, 2, 2)
+        && alone("O,2,6,6,10", &[16, 24]) == (0, 2, 2)
+        && alone("O,2,6,6,999999999", &[1_000_000_000]) == (0, 0, 0)
+        && alone("O,2,6,6,999999999", &[1_000_000_001]) == (0, 1, 1)
+        && alone("O,2,6,6,1000000000", &[1_000_000_000]) == (0, 1, 2)
+        && alone("O,2,6,6,1000000000", &[]) == (0, 0, 0)
+}
+
+/// Streams: 1 is released at 5 and due at 9; what a round may serve, and may
+/// leave. 2 to 4 of (1,20,19) are due at 20, and B = 1: own rounds begin at 17.
+fn plan_slots() -> bool {
+    let one = |rounds: &[(u32, &[u16])]| found("O,1,6,6,0 / A,1,5,6,4", 1, rounds);
+    let doomed = "O,1,20,30,0 / A,2,1,20,19 / A,3,1,20,19 / A,4,1,20,19";
+    one(&[(5, &[1])]) == (0, 0, 0)
+        && one(&[(4, &[1])]) == (0, 1, 4)
+        && one(&[(4, &[]), (8, &[1])]) == (0, 0, 0)
+        && one(&[(4, &[]), (9, &[1])]) == (0, 2, 4)
+        && one(&[(4, &[]), (7, &[]), (8, &[1])]) == (0, 0, 0)
+        && one(&[(4, &[]), (8, &[])]) == (0, 2, 5)
+        && one(&[(5, &[1]), (11, &[1])]) == (0, 0, 0)
+        && one(&[(5, &[1]), (10, &[1])]) == (0, 2, 4)
+        && one(&[(5, &[1]), (10, &[]), (14, &[])]) == (0, 3, 5)
+        && one(&[(5, &[1]), (10, &[]), (14, &[1])]) == (0, 0, 0)
+        && found(doomed, 1, &[(18, &[2])]) == (0, 0, 0)
+        && found(doomed, 1, &[(18, &[2]), (19, &[3])]) == (0, 2, 5)
+        && found(doomed, 1, &[(17, &[2]), (18, &[4]), (19, &[3])]) == (0, 0, 0)
+}
+
+/// With messages on the slots for streams are one fewer; message numbers are
+/// skipped, with messages off too.
+fn plan_messages() -> bool {
+    let on = "O,3,6,6,0,1 / A,1,1,3,2 / A,2,1,6,6 / A,3,2,6,5";
+    let off = "O,3,6,6,0,0 / A,1,1,3,2 / A,2,1,6,6 / A,3,2,6,5";
+    found(on, 3, &[(2, &[1, 2, 3])]) == (0, 1, 3)
+        && found(off, 3, &[(2, &[1, 2, 3])]) == (0, 0, 0)
+        && found(on, 3, &[(2, &[1, 2, 40_000])]) == (0, 0, 0)
+        && found(off, 3, &[(2, &[1, 40_000, 40_000])]) == (0, 0, 0)
+        && found(on, 3, &[(2, &[1, 32_768, 65_535])]) == (0, 0, 0)
+        && found(on, 3, &[(2, &[40_000, 1])]) == (0, 1, 1)
+        && found(on, 3, &[(2, &[1, 9, 8])]) == (0, 1, 3)
+        && found(on, 3, &[(9, &[1, 9, 8])]) == (0, 1, 2)
+        && found(on, 3, &[(2, &[1, 9, 40_000])]) == (0, 1, 4)
+}
+
+/// 5 with bytes and without, of a closed planner and of damaged memory; and no
+/// check changes the planner.
+fn plan_refusals() -> bool {
+    calls_give(
+        "C, / C,00 / C,000000010200 / O,2,6,6,0 / C,000000010200 / C, / C,0000 000102 00 / R 2",
+        "C 5 0 / C 5 0 / C 5 0 / O,0 / C 0 0 / C 0 0 / C 0 0 / R 0 7 0 0 0",
+    ) && calls_give(
+        "O,2,6,6,0,1 / M gap 0 / C, / C,00 / M gap 6 / C,00 / M messages 2 / C, / M messages 1 / \
+         M number 0 7 / M count 1 / C,000000010200 / M count 0 / C,000000010200",
+        "O,0 / M / C 5 0 / C 5 0 / M / C 0 1 / M / C 5 0 / M / \
+         M / M / C 5 0 / M / C 0 0",
+    )
+}
+
+/// Plans of random calls, checked another way: each stream's packets are
+/// counted over all rounds up to one. A plan without an edit is sound.
+fn counted_plans() -> bool {
+    (1..=10).all(|seed| {
+        let mut list = List::new(seed);
+        (0..2_000).all(|_| {
+            let step = list.step();
+            let planner = &list.calls.planner;
+            let good = match &step.check {
+                Some(check) if planner.is_closed() => check.found.answer == 5,
+                Some(Check { plan, edit, found }) => {
+                    let counted = first_uncounted(planner, plan);
+                    found.round() == counted && (*edit != 0 || counted == 0)
+                }
+                None => true,
+            };
+            if !good {
+                println!("with {planner:?}\ncalled {}", step.text());
+            }
+            good
+        })
+    })
+}
+
+/// The number of the first round up to which the counts do not fit, else 0.
+fn first_uncounted(planner: &Planner, plan: &[u8]) -> usize {
+    let mut rounds: Vec<(u64, Vec<u64>)> = Vec::new();
+    let mut rest = plan;
+    while !rest.is_empty() {
+        let length = rest.get(5).map_or(7, |n| 6 + 2 * usize::from(*n));
+        let (packet, more) = rest.split_at(length.min(rest.len()));
+        let read = packet::read(packet);
+        let numbers = packet::ids(packet::ids_part(packet)).into_iter();
+        let ids = numbers.map(u64::from).filter(|number| *number < 32_768);
+        rounds.push((read.start, ids.collect()));
+        if read.answer != 0 || read.slots != planner.slots || !counts_fit(planner, &rounds) {
+            return rounds.len();
+        }
+        rest = more;
+    }
+    0
+}
+
+/// Whether the last of some rounds starts in time and lists held streams, and
+/// whether each stream's m-th round of all of these falls between the release
+/// and the due time of its m-th packet, and has as many rounds as packets that
+/// are due by the last round's end.
+fn counts_fit(planner: &Planner, rounds: &[(u64, Vec<u64>)]) -> bool {
+    let starts: Vec<u64> = [planner.last]
+        .into_iter()
+        .chain(rounds.iter().map(|round| round.0))
+        .collect();
+    let gap = starts[rounds.len()].checked_sub(starts[rounds.len() - 1]);
+    let ids = &rounds[rounds.len() - 1].1;
+    gap.is_some_and(|gap| (1..=planner.gap + 1).contains(&gap))
+        && ids.len() as u64 <= planner.stream_slots()
+        && ids.iter().all(|id| planner.holds(*id))
+        && planner.streams.iter().all(|stream| {
+            let with_it = rounds.iter().filter(|round| round.1.contains(&stream.id));
+            let served: Vec<u64> = with_it.map(|round| round.0).collect();
+            let packet = |m: u64| stream.release + m * stream.period;
+            let in_time = served
+                .iter()
+                .zip(0..)
+                .all(|(start, m)| (packet(m)..packet(m) + stream.deadline).contains(start));
+            let last = starts[rounds.len()];
+            let due = (0..).take_while(|m| packet(*m) + stream.deadline <= last + 1);
+            in_time && due.count() <= served.len()
+        })
+}
+
 /// Generated scripts: the planner stays sound, 12, 13 and each start are what
 /// a simulation says, and the slots are in order.
 fn simulated() -> bool {
@@ -786,14 +994,21 @@ fn every_answer() -> bool {
 
 /// What a list of 20,000 calls has three times at least: each answer of each
 /// call; B of 1, 2, 3 and 64; rounds with and without ids and messages, on an
-/// empty table and on others; and messages that wait when a round is refused
-/// with 17 and are in a later one.
+/// empty table and on others; messages that wait when a round is refused with
+/// 17 and are in a later one; and of plans each rule broken in the first round
+/// and in a later one, sound ones with no round, one and more, each edit, and
+/// refused ones with bytes and without.
 const KINDS: &str = "\
     O 0/O 1/O 2/O 3/O 4/A 0/A 5/A 6/A 7/A 8/A 9/A 10/A 11/A 12/A 13/D 0/D 5/D 14/\
     S 0/S 5/S 29/S 30/R 0/R 5/R 16/R 17/B 1/B 2/B 3/B 64/after 17/\
     ids 0, messages 0, streams 0/ids 0, messages 1, streams 0/ids 0, messages 2, streams 0/\
     ids 0, messages 0, streams 1/ids 0, messages 1, streams 1/ids 0, messages 2, streams 1/\
-    ids 1, messages 0, streams 1/ids 1, messages 1, streams 1/ids 1, messages 2, streams 1";
+    ids 1, messages 0, streams 1/ids 1, messages 1, streams 1/ids 1, messages 2, streams 1/\
+    C 0/C 5/rule 1, passed 0/rule 2, passed 0/rule 3, passed 0/rule 4, passed 0/rule 5, passed 0/\
+    rule 1, passed 1/rule 2, passed 1/rule 3, passed 1/rule 4, passed 1/rule 5, passed 1/\
+    rule 0, passed 0/rule 0, passed 1/rule 0, passed 2/refused, bytes 0/refused, bytes 1/\
+    edit 0/edit 1/edit 2/edit 3/edit 4/edit 5/edit 6/edit 7/edit 8/edit 9/edit 10/edit 11/\
+    edit 12/edit 13/edit 14/edit 15";
 
 fn every_answer_of_calls() -> bool {
     let mut list = List::new(1);
@@ -837,6 +1052,15 @@ fn kinds_of(before: &Planner, step: &Step, late: bool) -> Vec<String> {
         if late && messages > 0 {
             kinds.push(String::from("after 17"));
         }
+    }
+    if let Some(check) = &step.check {
+        let Check { plan, edit, found } = check;
+        let most = if found.rule == 0 { 2 } else { 1 };
+        kinds.push(match found.answer {
+            0 => format!("rule {}, passed {}", found.rule, found.passed.min(most)),
+            _ => format!("refused, bytes {}", plan.len().min(1)),
+        });
+        kinds.push(format!("edit {edit}"));
     }
     kinds
 }

@@ -7,10 +7,12 @@
  *   S,NUMBER                 planner_send: S,NUMBER,ANSWER
  *   R LENGTH                 a round with a buffer of LENGTH elements, each 0: R ANSWER START N, and all elements
  *   F LENGTH N               planner_filled: F ELEMENTS
+ *   C,BYTES                  planner_check of the plan that these bytes are: C ANSWER ROUND
  *   M FIELD VALUE            sets slots, frame, gap, messages, last, or the count of waiting messages in the planner's memory: M
  *   M number PLACE VALUE     sets the waiting message at a place from 0: M
  * A line ends in ` changed` where a refused call left another byte in the planner (7.3), and in ` differs` where the planner that O leaves is not
- * byte by byte what the same O leaves in other memory (7.7, 7.8), or where a round wrote an element behind its n (7.29); no vector expects either.
+ * byte by byte what the same O leaves in other memory (7.7, 7.8), or where a round wrote an element behind its n (7.29); a check's ends in ` changed`
+ * where another byte stands in the planner or the plan, whatever it answered (14.16); no vector expects any of these.
  * Bytes are in hex with blanks anywhere. Any other line is passed over. Each line is as one of vectors/library: nothing tests that.
  * To build it, LIB being lib of the bundle or target/lib of the repository: cc -std=c99 -Iinclude vectors/library.c -LLIB -lplanner -o library */
 #include "packets.h"
@@ -20,8 +22,8 @@
 #include <stdlib.h>
 #include <string.h>
 
-#define MOST_TEXT 4096
-#define MOST_BYTES 1024
+#define MOST_TEXT 8192
+#define MOST_BYTES 2048
 #define MOST_ELEMENTS 512
 /* What the elements of a round's buffer are before: 0 is the one number of 16 bits that is neither an id nor a message, so that none of the n is
  * taken for one that was left; where 0 is written, the other shows it. */
@@ -181,6 +183,18 @@ static void give_filled(size_t length, uint32_t n) {
     printf("\n");
 }
 
+static void check_plan(const struct planner *planner, const uint8_t *plan, size_t length) {
+    static struct planner before;
+    static uint8_t bytes[MOST_BYTES];
+    before = *planner;
+    memcpy(bytes, plan, sizeof bytes);
+    struct planner_verdict verdict = planner_check(planner, plan, length);
+    print_number("C ", verdict.answer);
+    print_number(" ", verdict.round);
+    int same = memcmp(planner, &before, sizeof before) == 0 && memcmp(plan, bytes, sizeof bytes) == 0;
+    printf("%s\n", same ? "" : " changed");
+}
+
 /* The field that a text names. */
 static uint32_t *field_in(struct planner *planner, const char *text) {
     const struct {
@@ -233,6 +247,8 @@ int main(void) {
             write_packet(bytes, count);
         } else if (text[0] == 'S' && text[1] != ',') {
             give_superframe(bytes, count);
+        } else if (text[0] == 'C') {
+            check_plan(&planner, bytes, count);
         } else {
             call(&planner, text);
         }

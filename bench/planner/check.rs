@@ -3,7 +3,7 @@
 // Many streams are due together, released in another order than their ids, since their order shows nothing where all due times differ.
 use super::limit::Limit;
 use super::proved::{hold, open_at, streams, Planner};
-use super::tables::Random;
+use super::loads::Random;
 use super::{Host, Offer};
 use planner::raw::BYTES;
 use planner::Setting;

@@ -2,7 +2,8 @@
 // streams both at light and at full load.
 use super::limit::Limit;
 use super::proved::open;
-use super::tables::{busy_length, of_busy_length, Hosts, Random, GAP, ROUNDS};
+use super::loads::{busy_length, of_busy_length, Random, GAP, ROUNDS};
+use super::tables::Hosts;
 use super::{Host, Offer};
 
 pub struct Point {

@@ -41,6 +41,13 @@ static int is_packet(uint32_t start, uint16_t first, uint16_t second) {
         && header.n == 2 && packet_ids_length(packet, 10) == 4 && packet_id(packet, 0) == first && packet_read(packet, 11).answer == 26;
 }
 
+/* Whether the first of these bytes get this verdict: they are the round at 2 twice. */
+static int is_verdict(size_t length, uint32_t answer, uint32_t round) {
+    static const uint8_t plan[] = {0, 0, 0, 2, 2, 2, 0, 1, 0, 2, 0, 0, 0, 2, 2, 2, 0, 1, 0, 2};
+    struct planner_verdict verdict = planner_check(&kept, plan, length);
+    return verdict.answer == answer && verdict.round == round;
+}
+
 /* How many answers have been looked at, and which was the first that is not the one expected; 0 if none. */
 static int seen, first_wrong;
 
@@ -54,11 +61,14 @@ static void expect(int right) {
 static void example(void) {
     const uint8_t periods[] = {5, 7, 15};
     expect(planner_remove(&kept, 0) == 5);
+    expect(is_verdict(10, 5, 0));
     expect(planner_open(&kept, 2, 6, 6, 0, 0) == 0);
     expect(planner_remove(&kept, 0) == 14);
     expect(planner_add(&kept, 1, 1, 3, 2) == 0);
     expect(planner_add(&kept, 2, 1, 6, 6) == 0);
     expect(planner_add(&kept, 3, 2, 6, 5) == 0);
+    expect(is_verdict(10, 0, 0));
+    expect(is_verdict(20, 0, 2));
     expect(is_round(2, 1, 2));
     expect(is_packet(2, 1, 2));
     expect(is_round(5, 1, 3));

@@ -1,6 +1,7 @@
-/* Refused calls store nothing (Annex 7.37): planner and buffer lie in memory that can only be read, where a store would end this program. First come
- * planners whose messages are damaged (Annex 3.17), one thing in each, which add, remove, send and round have to refuse with 5; then sound ones, and
- * each other refusal. Prints a line a planner or a call. For Linux, whose pages can be made such memory. */
+/* Refused calls store nothing (Annex 7.37), and a check never does (Annex 14.16): planner and buffer lie in memory that can only be read, where a store
+ * would end this program. First come planners whose messages are damaged (Annex 3.17), one thing in each, which check, add, remove, send and round
+ * have to refuse with 5; then sound ones, checks and each other refusal. Prints a line a planner or a call. For Linux, whose pages can be made such
+ * memory. */
 #define _DEFAULT_SOURCE
 #include <stdio.h>
 #include <string.h>
@@ -13,6 +14,9 @@ struct lent {
     struct planner planner;
     uint16_t buffer[PLANNER_MOST_SLOTS];
 };
+
+/* One round at 2 with id 1 alone, twice: the second does not start after the first. */
+static const uint8_t plan[] = {0, 0, 0, 2, 4, 1, 0, 1, 0, 0, 0, 2, 4, 1, 0, 1};
 
 static struct lent *lent;
 static int right = 1;
@@ -35,9 +39,11 @@ static struct planner opened(uint32_t slots, uint32_t messages, uint32_t waiting
     return p;
 }
 
-/* Calls that succeed on opened(4, 1, 31), each of which stores something there. */
+/* A check that finds opened(4, 1, 31) sound, and calls that succeed on it, each of which stores something there. */
 static void print_answers(const char *name, struct planner *p, uint16_t *buffer) {
-    printf("%s: add %u", name, (unsigned)planner_add(p, 4, 1, 6, 6));
+    struct planner_verdict verdict = planner_check(p, plan, 8);
+    printf("%s: check %u %u", name, (unsigned)verdict.answer, (unsigned)verdict.round);
+    printf(", add %u", (unsigned)planner_add(p, 4, 1, 6, 6));
     printf(", remove %u", (unsigned)planner_remove(p, 1));
     printf(", send %u", (unsigned)planner_send(p, 50000));
     printf(", round %u\n", (unsigned)planner_round(p, buffer, PLANNER_MOST_SLOTS).answer);
@@ -92,6 +98,22 @@ static void damages(void) {
     refuse("zeros", &damaged);
     right = right && planner_open(&damaged, 1, 6, 6, 0, 1) == PLANNER_BAD_SLOTS;
     refuse("closed", &damaged);
+}
+
+static void print_check(size_t length) {
+    struct planner_verdict verdict = planner_check(&lent->planner, plan, length);
+    printf("check of %zu bytes, 3 waiting: %u %u\n", length, (unsigned)verdict.answer, (unsigned)verdict.round);
+}
+
+/* A sound plan, one cut short, one of no bytes, and one whose second round breaks a rule. */
+static void checks(void) {
+    struct planner some = opened(4, 1, 3);
+    lend(&some);
+    print_check(8);
+    print_check(7);
+    print_check(0);
+    print_check(16);
+    right = right && memcmp(&lent->planner, &some, sizeof some) == 0;
 }
 
 static void print_send(const char *planner, uint32_t number) {
@@ -162,6 +184,7 @@ int main(void) {
     }
     lent = (struct lent *)page;
     damages();
+    checks();
     sends();
     other_refusals();
     rare_refusals();

@@ -8,8 +8,8 @@ packet_version:
         mov     $PACKETS, %eax
         ret
 
-        .globl  planner_open, planner_add, planner_remove, planner_send, planner_round, packet_write, packet_read, superframe
-planner_open: planner_add: planner_remove: planner_send: planner_round: packet_write: packet_read: superframe:
+        .globl  planner_open, planner_add, planner_remove, planner_send, planner_round, planner_check, packet_write, packet_read, superframe
+planner_open: planner_add: planner_remove: planner_send: planner_round: planner_check: packet_write: packet_read: superframe:
         ud2
 
         .section .note.GNU-stack, "", @progbits

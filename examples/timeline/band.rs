@@ -2,10 +2,11 @@
 
 use crate::axis::{Band, Plot};
 use crate::heads::{Head, ID, START};
-use crate::history::{Opening, Round, Stream};
+use crate::history::{Opening, Stream};
+use crate::judged::Broken;
 use crate::rows::Rows;
-use crate::svg::{Anchor, Font, Picture, Sign, AHEAD, COLUMN, EDGE, GREY, INK, PLAIN, WHITE};
-use crate::{marks, scale, ticks};
+use crate::svg::{Anchor, Font, Picture, Sign, EDGE, GREY, INK, PLAIN, REFUSED};
+use crate::{broken, columns, marks, scale, ticks};
 
 const SMALL: Font = Font {
     size: 11.0,
@@ -33,6 +34,9 @@ pub struct Shared<'a> {
     pub rows: Rows,
     pub plot: Plot,
     pub left: f64,
+    /// What the time after the last round is, if it is shown.
+    pub ahead: Option<Sign>,
+    pub broken: Option<&'a Broken>,
 }
 
 /// The heights of a band's parts.
@@ -46,20 +50,20 @@ struct Heights {
 /// Draws a band from y on, and answers where it ends.
 pub fn draw(picture: &mut Picture, shared: &Shared, band: &Band, y: f64) -> f64 {
     let streams = shared.rows.shown(&shared.opening.streams, band);
-    let forced = forced(shared.opening, band);
+    let waits = waits(shared, band);
     let placed = scale::placed(band, &shared.heads, &shared.plot);
     let by_column = placed.iter().any(|(head, _, _)| head.ids.len() > 1);
     let lines = placed.iter().map(|(head, _, _)| head.lines()).max();
     let rows = y + LINE * (lines.unwrap_or(0).max(1) + 1) as f64 + LEADER;
     let brackets = rows + streams.len().max(1) as f64 * shared.rows.height;
-    let lane = if forced.is_empty() { 6.0 } else { BRACKETS };
+    let lane = if waits.is_empty() { 6.0 } else { BRACKETS };
     let heights = Heights {
         heads: y,
         rows,
         brackets,
         axis: brackets + lane,
     };
-    columns(picture, shared, band, &heights);
+    all_columns(picture, shared, band, &heights);
     ticks::grid(picture, band, (heights.rows, heights.axis));
     all_rows(picture, shared, band, &streams, &heights);
     for (head, column, middle) in placed {
@@ -77,17 +81,26 @@ pub fn draw(picture: &mut Picture, shared: &Shared, band: &Band, y: f64) -> f64 
         ticks::break_at(picture, x, (heights.rows - OVER, heights.brackets));
         ticks::break_at(picture, x, (heights.axis - 4.0, heights.axis + 7.0));
     }
-    for round in forced {
-        bracket(picture, band, round, shared.opening.gap, heights.brackets);
+    for wait in waits {
+        bracket(picture, band, wait, shared.opening.gap, heights.brackets);
     }
-    marks::lane(picture, &shared.opening.refusals, band, heights.axis + 24.0)
+    let y = marks::lane(picture, &shared.opening.refusals, band, heights.axis + 24.0);
+    match shared.broken {
+        Some(broken) => broken::mark(picture, broken, band, y),
+        None => y,
+    }
 }
 
-/// The rounds at the gap limit of which a band has a part of the wait.
-fn forced<'a>(opening: &'a Opening, band: &Band) -> Vec<&'a Round> {
-    let rounds = opening.rounds.iter().filter(|round| round.forced);
-    rounds
-        .filter(|round| !band.pieces(round.after, round.start).is_empty())
+/// The waits up to the gap limit of which a band has a part: before a round
+/// that starts at it, and before one that starts past it.
+fn waits(shared: &Shared, band: &Band) -> Vec<(u64, u64, Sign)> {
+    let rounds = shared.opening.rounds.iter().filter(|round| round.forced);
+    let forced = rounds.map(|round| (round.after, round.start, Sign::Forced));
+    let past = shared.broken.and_then(|it| it.limit(shared.opening.gap));
+    let past = past.map(|(from, to)| (from, to, Sign::Limit));
+    forced
+        .chain(past)
+        .filter(|(from, to, _)| !band.pieces(*from, *to).is_empty())
         .collect()
 }
 
@@ -104,43 +117,20 @@ fn names(picture: &mut Picture, shared: &Shared, heights: &Heights, by_column: b
 }
 
 /// The time after the last round and the columns of the rounds, under the rows.
-fn columns(picture: &mut Picture, shared: &Shared, band: &Band, heights: &Heights) {
-    for piece in band.pieces(shared.opening.now(), u64::MAX) {
-        let size = (piece.x2 - piece.x1, heights.axis - heights.rows);
-        ahead(picture, (piece.x1, heights.rows), size);
+fn all_columns(picture: &mut Picture, shared: &Shared, band: &Band, heights: &Heights) {
+    if let Some(sign) = shared.ahead {
+        for piece in band.pieces(shared.opening.now(), u64::MAX) {
+            let size = (piece.x2 - piece.x1, heights.axis - heights.rows);
+            columns::ahead(picture, (piece.x1, heights.rows), size, sign);
+        }
     }
     let top = heights.rows - OVER;
     for head in &shared.heads {
         for piece in band.pieces(head.time, head.time + 1) {
             let size = (piece.x2 - piece.x1, heights.axis - top);
-            column(picture, (piece.x1, top), size, head.is_opening());
+            columns::column(picture, (piece.x1, top), size, head.sign);
         }
     }
-}
-
-pub fn ahead(picture: &mut Picture, at: (f64, f64), size: (f64, f64)) {
-    picture.signs.insert(Sign::Ahead);
-    picture.rect(at, size, &format!("fill=\"{AHEAD}\""));
-}
-
-pub fn column(picture: &mut Picture, at: (f64, f64), size: (f64, f64), opening: bool) {
-    let (sign, fill) = match opening {
-        true => (Sign::Opening, WHITE),
-        false => (Sign::Round, COLUMN),
-    };
-    picture.signs.insert(sign);
-    picture.rect(at, size, &format!("fill=\"{fill}\""));
-}
-
-/// A column's edges, over the insides of packets and under their outlines.
-pub fn edges(picture: &mut Picture, (x, y): (f64, f64), (w, h): (f64, f64), opening: bool) {
-    let dash = if opening {
-        " stroke-dasharray=\"2 2\""
-    } else {
-        ""
-    };
-    let style = format!("fill=\"none\" stroke=\"{EDGE}\" stroke-width=\"0.8\"{dash}");
-    picture.path(&[(x, y + h), (x, y), (x + w, y), (x + w, y + h)], &style);
 }
 
 fn all_rows(
@@ -160,26 +150,35 @@ fn all_rows(
     for head in &shared.heads {
         for piece in band.pieces(head.time, head.time + 1) {
             let size = (piece.x2 - piece.x1, heights.axis - top);
-            edges(picture, (piece.x1, top), size, head.is_opening());
+            columns::edges(picture, (piece.x1, top), size, head.sign);
         }
     }
     for (place, stream) in streams.iter().enumerate() {
         rows.outlines(picture, band, stream, y(place));
     }
     for (place, stream) in streams.iter().enumerate() {
+        if let Some(broken) = shared.broken {
+            broken::faults(picture, broken, band, stream.id, rows.inner(y(place)));
+        }
         rows.marks(picture, band, stream, y(place));
     }
 }
 
 /// A head with its middle at x, and a line from it to its column.
 fn draw_head(picture: &mut Picture, head: &Head, (x, y): (f64, f64), column: (f64, f64)) {
-    picture.text((x, y + 11.0), Anchor::Middle, START, &head.start);
+    let fill = if head.sign == Sign::Broken {
+        REFUSED
+    } else {
+        INK
+    };
+    let (start, id) = (Font { fill, ..START }, Font { fill, ..ID });
+    picture.text((x, y + 11.0), Anchor::Middle, start, &head.start);
     let left = x - head.column * (head.ids.len() as f64 - 1.0) / 2.0;
     for (place, ids) in head.ids.iter().enumerate() {
         let x = left + place as f64 * head.column;
-        for (line, id) in ids.iter().enumerate() {
+        for (line, text) in ids.iter().enumerate() {
             let y = y + 11.0 + (line + 1) as f64 * LINE;
-            picture.text((x, y), Anchor::Middle, ID, id);
+            picture.text((x, y), Anchor::Middle, id, text);
         }
     }
     let below = y + LINE * (head.lines() + 1) as f64 + 2.0;
@@ -189,15 +188,16 @@ fn draw_head(picture: &mut Picture, head: &Head, (x, y): (f64, f64), column: (f6
     picture.path(&points, &style);
 }
 
-/// The wait before a round at the gap limit, from the end of the round before.
-fn bracket(picture: &mut Picture, band: &Band, round: &Round, gap: u64, y: f64) {
-    let pieces = band.pieces(round.after, round.start);
+/// A wait from the end of a round up to the gap limit.
+fn bracket(picture: &mut Picture, band: &Band, of: (u64, u64, Sign), gap: u64, y: f64) {
+    let pieces = band.pieces(of.0, of.1);
     let (first, last) = (pieces[0], pieces[pieces.len() - 1]);
     wait(
         picture,
         (first.x1, last.x2),
         (first.open_left, last.open_right),
         y + 9.0,
+        of.2,
     );
     let room = last.x2 - first.x1;
     let fits = |text: &String| SMALL.width(text) + 3.0 <= room;
@@ -212,10 +212,10 @@ fn bracket(picture: &mut Picture, band: &Band, round: &Round, gap: u64, y: f64) 
 }
 
 /// A line with an arrow at each end that is not open.
-pub fn wait(picture: &mut Picture, (x1, x2): (f64, f64), open: (bool, bool), y: f64) {
+pub fn wait(picture: &mut Picture, (x1, x2): (f64, f64), open: (bool, bool), y: f64, sign: Sign) {
     let style = format!("stroke=\"{INK}\" stroke-width=\"1.2\"");
     let head = ((x2 - x1) / 3.0).min(6.0);
-    picture.signs.insert(Sign::Forced);
+    picture.signs.insert(sign);
     picture.line((x1, y), (x2, y), &style);
     for (x, toward, open) in [(x1, head, open.0), (x2, -head, open.1)] {
         if !open {

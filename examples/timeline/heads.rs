@@ -1,7 +1,8 @@
 //! What stands over a round's column: its start, and the ids it sends.
 
 use crate::history::Round;
-use crate::svg::{Font, BOLD, PLAIN};
+use crate::plan::Packet;
+use crate::svg::{Font, Sign, BOLD, PLAIN};
 
 pub const START: Font = Font { size: 12.0, ..BOLD };
 pub const ID: Font = Font {
@@ -22,6 +23,8 @@ const ROOM: f64 = 7.0;
 #[derive(Clone, Debug)]
 pub struct Head {
     pub time: u64,
+    /// What its column is.
+    pub sign: Sign,
     pub start: String,
     /// Columns of ids, in slot order from top to bottom and then to the right.
     pub ids: Vec<Vec<String>>,
@@ -31,35 +34,45 @@ pub struct Head {
 
 impl Head {
     pub fn of(round: &Round) -> Head {
-        let mut ids: Vec<String> = round.ids.iter().map(u64::to_string).collect();
+        Head::of_numbers(round.start, Sign::Round, &round.ids)
+    }
+
+    /// The head of a round that breaks a rule.
+    pub fn of_broken(packet: &Packet) -> Head {
+        Head::of_numbers(packet.start, Sign::Broken, &packet.numbers)
+    }
+
+    fn of_numbers(start: u64, sign: Sign, numbers: &[u64]) -> Head {
+        let mut ids: Vec<String> = numbers.iter().map(u64::to_string).collect();
         if ids.is_empty() {
             ids.push(String::from(EMPTY));
         }
-        Head::new(round.start, round.start.to_string(), &ids)
+        Head::new(start, sign, start.to_string(), &ids)
     }
 
     /// The head of the round that an opening takes as held.
     pub fn of_opening(time: u64) -> Head {
-        Head::new(time, String::from("T"), &[])
+        Head::new(time, Sign::Opening, String::from("T"), &[])
     }
 
-    fn new(time: u64, start: String, ids: &[String]) -> Head {
+    /// The head of the round before a plan.
+    pub fn of_last(time: u64) -> Head {
+        Head::new(time, Sign::Last, String::from("L"), &[])
+    }
+
+    fn new(time: u64, sign: Sign, start: String, ids: &[String]) -> Head {
         let widths = ids.iter().map(|id| ID.width(id));
         let column = widths.fold(0.0, f64::max) + ROOM;
         let ids: Vec<Vec<String>> = ids.chunks(MOST_LINES).map(<[String]>::to_vec).collect();
         let width = (START.width(&start) + ROOM).max(column * ids.len() as f64);
         Head {
             time,
+            sign,
             start,
             ids,
             column,
             width,
         }
-    }
-
-    /// Whether it is the head of no held round.
-    pub fn is_opening(&self) -> bool {
-        self.ids.is_empty()
     }
 
     /// The number of its lines under the start.

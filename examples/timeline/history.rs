@@ -4,6 +4,7 @@
 use crate::script::{Call, Deed};
 
 /// A stream from its add to its remove.
+#[derive(Clone)]
 pub struct Stream {
     pub id: u64,
     /// S: the release of packet 0.
@@ -39,6 +40,19 @@ impl Stream {
             .take_while(move |k| self.release(*k) < time)
             .take_while(move |k| *k <= last)
     }
+
+    /// A packet rides in a round at s if it was released by s, equality counts,
+    /// and is due at s + 1 or later.
+    pub fn send(&mut self, start: u64) -> Result<(), String> {
+        let k = self.unserved();
+        let (id, release, due) = (self.id, self.release(k), self.due(k));
+        if release > start || due < start + 1 {
+            let packet = format!("its packet is released at {release} and due at {due}");
+            return Err(format!("stream {id} cannot ride at {start}: {packet}"));
+        }
+        self.sent.push(start);
+        Ok(())
+    }
 }
 
 /// A held round.
@@ -64,12 +78,12 @@ pub struct Opening {
     pub slots: u64,
     pub superframe: u64,
     pub gap: u64,
-    /// T: as if a round had been held here.
+    /// T: as if a round had been held here. Of a plan, the last start before.
     pub time: u64,
     pub streams: Vec<Stream>,
     pub rounds: Vec<Round>,
     pub refusals: Vec<Refusal>,
-    closed: bool,
+    pub closed: bool,
     /// Calls after a refused O closed it.
     pub outside: Vec<Call>,
 }
@@ -165,7 +179,7 @@ impl Opening {
         }
     }
 
-    fn held(&mut self, id: u64) -> Option<&mut Stream> {
+    pub fn held(&mut self, id: u64) -> Option<&mut Stream> {
         let mut streams = self.streams.iter_mut();
         streams.find(|stream| stream.id == id && stream.removed.is_none())
     }
@@ -197,7 +211,7 @@ impl Opening {
         Ok(())
     }
 
-    fn hold(&mut self, start: u64, ids: Vec<u64>) -> Result<(), String> {
+    pub fn hold(&mut self, start: u64, ids: Vec<u64>) -> Result<(), String> {
         let (after, cap) = (self.now(), self.now() + self.gap);
         if start < after || start > cap {
             return Err(format!("a round at {start} is not from {after} to {cap}"));
@@ -207,7 +221,7 @@ impl Opening {
         }
         for id in &ids {
             let stream = self.held(*id).ok_or(format!("no stream {id} is held"))?;
-            send(stream, start)?;
+            stream.send(start)?;
         }
         self.rounds.push(Round {
             start,
@@ -227,17 +241,4 @@ impl Opening {
             None => Ok(()),
         }
     }
-}
-
-/// A packet rides in a round at s if it was released by s, equality counts,
-/// and is due at s + 1 or later.
-fn send(stream: &mut Stream, start: u64) -> Result<(), String> {
-    let k = stream.unserved();
-    let (id, release, due) = (stream.id, stream.release(k), stream.due(k));
-    if release > start || due < start + 1 {
-        let packet = format!("its packet is released at {release} and due at {due}");
-        return Err(format!("stream {id} cannot ride at {start}: {packet}"));
-    }
-    stream.sent.push(start);
-    Ok(())
 }

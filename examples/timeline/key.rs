@@ -2,7 +2,7 @@
 
 use crate::axis::Piece;
 use crate::svg::{Anchor, Font, Picture, Sign, GREY, PLAIN, WIDTH};
-use crate::{band, marks, rows, ticks};
+use crate::{band, broken, columns, marks, rows, ticks};
 
 const WORDS: Font = Font {
     size: 11.5,
@@ -41,12 +41,17 @@ fn words(sign: Sign) -> &'static str {
         Sign::Unsent => "packet not sent yet",
         Sign::Gone => "unserved packet that went with its stream",
         Sign::Round => "round, one unit wide; above it its start and ids by slot",
+        Sign::Broken => "first round that breaks a rule, which is named below it",
+        Sign::Fault => "packet that it may not send, or that it may not leave",
         Sign::Opening => "unit from T, as if a round had been held there",
+        Sign::Last => "unit from L, the last start before the plan",
         Sign::Added => "stream added at now, the end of the last round",
         Sign::Removed => "stream removed at now",
         Sign::Forced => "start at the gap limit, G after the last round's end",
+        Sign::Limit => "wait to the gap limit, the latest start for the next round",
         Sign::Refused => "call refused at now; its number and the script's line",
         Sign::Ahead => "time after the last round of the run",
+        Sign::Rest => "time after the last round that passes",
         Sign::Break => "time left out",
         Sign::GoesOn => "packet that goes on outside of the band",
     }
@@ -77,15 +82,19 @@ fn draw_sign(picture: &mut Picture, sign: Sign, (x, y): (f64, f64)) {
             rows::inside(picture, &piece, height, Sign::Sent);
             rows::outline(picture, &piece, height, Sign::Sent);
         }
-        Sign::Round | Sign::Opening => {
+        Sign::Round | Sign::Broken | Sign::Opening | Sign::Last => {
             let (at, size) = ((unit.x1, y), (12.0, 20.0));
-            band::column(picture, at, size, sign == Sign::Opening);
-            band::edges(picture, at, size, sign == Sign::Opening);
+            columns::column(picture, at, size, sign);
+            columns::edges(picture, at, size, sign);
         }
-        Sign::Ahead => band::ahead(picture, (x, y + 2.0), (SIGN, 16.0)),
+        Sign::Fault => broken::outline(picture, &piece, height),
+        Sign::Ahead | Sign::Rest => columns::ahead(picture, (x, y + 2.0), (SIGN, 16.0), sign),
         Sign::Added => rows::added(picture, (unit.x1 + 6.0, middle)),
         Sign::Removed => rows::removed(picture, (unit.x1 + 6.0, middle)),
-        Sign::Forced => band::wait(picture, (x + 4.0, x + SIGN - 4.0), (false, false), middle),
+        Sign::Forced | Sign::Limit => {
+            let ends = (x + 4.0, x + SIGN - 4.0);
+            band::wait(picture, ends, (false, false), middle, sign);
+        }
         Sign::Refused => marks::arrow(picture, (unit.x1 + 6.0, y + 7.0)),
         Sign::Break => ticks::break_at(picture, unit.x1 + 6.0, (y, y + 20.0)),
     }

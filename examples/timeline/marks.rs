@@ -110,9 +110,14 @@ fn draw(picture: &mut Picture, block: &Block, y: f64, line: usize) {
 }
 
 /// A point that touches the time of a refused call.
-pub fn arrow(picture: &mut Picture, (x, y): (f64, f64)) {
-    let points = [(x - 3.5, y + 6.0), (x, y), (x + 3.5, y + 6.0)];
+pub fn arrow(picture: &mut Picture, at: (f64, f64)) {
     picture.signs.insert(Sign::Refused);
+    point(picture, at);
+}
+
+/// A point that touches a time from below.
+pub fn point(picture: &mut Picture, (x, y): (f64, f64)) {
+    let points = [(x - 3.5, y + 6.0), (x, y), (x + 3.5, y + 6.0)];
     picture.path(&points, &format!("fill=\"{REFUSED}\""));
 }
 

@@ -137,7 +137,7 @@ impl Rows {
     }
 
     /// The top and bottom of spans in the row that begins at y.
-    fn inner(&self, y: f64) -> (f64, f64) {
+    pub fn inner(&self, y: f64) -> (f64, f64) {
         (y + OVER, y + self.height - OVER)
     }
 
@@ -180,23 +180,34 @@ pub fn inside(picture: &mut Picture, piece: &Piece, (top, bottom): (f64, f64), s
 
 /// A packet from its release, a thick edge that reaches up, to its due time, a
 /// thin one that reaches down.
-pub fn outline(picture: &mut Picture, piece: &Piece, (top, bottom): (f64, f64), sign: Sign) {
-    let Piece { x1, x2, .. } = *piece;
+pub fn outline(picture: &mut Picture, piece: &Piece, height: (f64, f64), sign: Sign) {
     let gone = sign == Sign::Gone;
     let dash = if gone {
         " stroke-dasharray=\"3 2.5\""
     } else {
         ""
     };
-    let thin = format!("stroke=\"{SENT}\"{dash}");
     picture.signs.insert(sign);
+    edged(picture, piece, height, SENT, dash);
+}
+
+/// The same in a colour of its own.
+pub fn edged(
+    picture: &mut Picture,
+    piece: &Piece,
+    (top, bottom): (f64, f64),
+    colour: &str,
+    dash: &str,
+) {
+    let Piece { x1, x2, .. } = *piece;
+    let thin = format!("stroke=\"{colour}\"{dash}");
     picture.line((x1, top), (x2, top), &thin);
     picture.line((x1, bottom), (x2, bottom), &thin);
     if !piece.open_right {
         picture.line((x2, top), (x2, bottom + EDGE), &thin);
     }
     if !piece.open_left {
-        let thick = format!("stroke=\"{SENT}\" stroke-width=\"2\"");
+        let thick = format!("stroke=\"{colour}\" stroke-width=\"2\"");
         picture.line((x1, top - EDGE), (x1, bottom), &thick);
     }
 }

@@ -27,15 +27,16 @@ const AFTER_NO_ROUND: u64 = 60;
 
 /// The bands of an opening's run.
 pub fn bands(opening: &Opening, plot: &Plot) -> Vec<Band> {
-    let times = times(opening);
-    let heads = heads(opening);
-    one_band(&times, &heads, plot).unwrap_or_else(|| {
-        let mut bands = several(&times, &heads, plot);
-        while bands.len() > 1 && is_idle(opening, &bands[bands.len() - 1]) {
-            bands.pop();
-        }
-        finished(bands)
-    })
+    let mut bands = bands_of(&times(opening, end(opening)), &[heads(opening)], plot);
+    while bands.len() > 1 && is_idle(opening, &bands[bands.len() - 1]) {
+        bands.pop();
+    }
+    finished(bands)
+}
+
+/// Bands for these times, in which each list of heads has room.
+pub fn bands_of(times: &BTreeSet<u64>, heads: &[Vec<Head>], plot: &Plot) -> Vec<Band> {
+    one_band(times, heads, plot).unwrap_or_else(|| several(times, heads, plot))
 }
 
 /// Whether a band shows nothing but packets not sent, and no call after the
@@ -56,8 +57,12 @@ pub fn heads(opening: &Opening) -> Vec<Head> {
 
 /// The end of the drawn time: what is due next, if it is released soon.
 pub fn end(opening: &Opening) -> u64 {
-    let now = opening.now();
-    let after = match opening.rounds.is_empty() {
+    end_from(opening, opening.now())
+}
+
+/// The same where the last round drawn ends at `now`.
+pub fn end_from(opening: &Opening, now: u64) -> u64 {
+    let after = match now == opening.time + 1 {
         true => AFTER_NO_ROUND,
         false => ((now - opening.time) / 6).clamp(AFTER.0, AFTER.1),
     };
@@ -68,8 +73,7 @@ pub fn end(opening: &Opening) -> u64 {
 }
 
 /// The times at which something happens, with the ends of what is drawn.
-fn times(opening: &Opening) -> BTreeSet<u64> {
-    let end = end(opening);
+pub fn times(opening: &Opening, end: u64) -> BTreeSet<u64> {
     let mut times = BTreeSet::from([opening.time, opening.time + 1, end]);
     for round in &opening.rounds {
         times.extend([round.start, round.start + 1]);
@@ -79,7 +83,8 @@ fn times(opening: &Opening) -> BTreeSet<u64> {
             times.extend([stream.release(k), stream.due(k).min(end)]);
         }
     }
-    times
+    // What a plan begins from may have been held for long.
+    times.split_off(&opening.time)
 }
 
 /// The stretches that are drawn where idle ones of this length are left out,
@@ -100,7 +105,7 @@ fn kept(times: &BTreeSet<u64>, idle: u64) -> Vec<(u64, u64)> {
 }
 
 /// All in one band, with as few breaks as can be.
-fn one_band(times: &BTreeSet<u64>, heads: &[Head], plot: &Plot) -> Option<Vec<Band>> {
+fn one_band(times: &BTreeSet<u64>, heads: &[Vec<Head>], plot: &Plot) -> Option<Vec<Band>> {
     IDLE.iter().find_map(|idle| {
         let kept = kept(times, *idle);
         let units: u64 = kept.iter().map(|(from, to)| to - from).sum();
@@ -122,7 +127,7 @@ fn widest(times: &BTreeSet<u64>) -> f64 {
 
 /// The fewest bands in which heads stand near their columns, and then the
 /// widest unit with as few. Units go by halves.
-fn several(times: &BTreeSet<u64>, heads: &[Head], plot: &Plot) -> Vec<Band> {
+fn several(times: &BTreeSet<u64>, heads: &[Vec<Head>], plot: &Plot) -> Vec<Band> {
     let kept = kept(times, IDLE[IDLE.len() - 1]);
     let split = |unit: f64| split(&kept, heads, unit, plot);
     let widest = widest(times);
@@ -140,21 +145,21 @@ fn several(times: &BTreeSet<u64>, heads: &[Head], plot: &Plot) -> Vec<Band> {
 }
 
 /// Fills band after band, unit by unit, while units and heads have room.
-fn split(kept: &[(u64, u64)], heads: &[Head], unit: f64, plot: &Plot) -> Vec<Band> {
-    let widths: BTreeMap<u64, f64> = heads.iter().map(|head| (head.time, head.width)).collect();
+fn split(kept: &[(u64, u64)], heads: &[Vec<Head>], unit: f64, plot: &Plot) -> Vec<Band> {
     let mut bands: Vec<Vec<(u64, u64)>> = vec![Vec::new()];
-    let (mut used, mut headed) = (0.0, 0.0);
+    let (mut used, mut headed) = (0.0, Headed::of(heads));
     for time in kept.iter().flat_map(|(from, to)| *from..*to) {
         let begins = kept.iter().any(|(from, _)| *from == time);
-        let head = widths.get(&time).copied().unwrap_or(0.0);
         let more = if begins && used > 0.0 {
             unit + BREAK
         } else {
             unit
         };
-        if used + more > plot.width || headed + head > plot.width {
+        if used + more > plot.width || headed.with(time) > plot.width {
             bands.push(vec![(time, time + 1)]);
-            (used, headed) = (unit, head);
+            used = unit;
+            headed.begin();
+            headed.take(time);
             continue;
         }
         let band = bands.last_mut().expect("there is one from the start");
@@ -162,10 +167,46 @@ fn split(kept: &[(u64, u64)], heads: &[Head], unit: f64, plot: &Plot) -> Vec<Ban
             Some((_, to)) if !begins => *to = time + 1,
             _ => band.push((time, time + 1)),
         }
-        (used, headed) = (used + more, headed + head);
+        used += more;
+        headed.take(time);
     }
     let bands = bands.iter().map(|times| Band::new(times, unit, plot));
     finished(bands.collect())
+}
+
+/// The widths that heads take in a band, list by list.
+struct Headed {
+    widths: Vec<BTreeMap<u64, f64>>,
+    taken: Vec<f64>,
+}
+
+impl Headed {
+    fn of(heads: &[Vec<Head>]) -> Headed {
+        let by_time = |list: &Vec<Head>| list.iter().map(|it| (it.time, it.width)).collect();
+        Headed {
+            widths: heads.iter().map(by_time).collect(),
+            taken: vec![0.0; heads.len()],
+        }
+    }
+
+    fn begin(&mut self) {
+        self.taken.fill(0.0);
+    }
+
+    /// What each list has with its head at a time.
+    fn each(&self, time: u64) -> impl Iterator<Item = f64> + '_ {
+        let lists = self.widths.iter().zip(&self.taken);
+        lists.map(move |(widths, taken)| taken + widths.get(&time).unwrap_or(&0.0))
+    }
+
+    /// The most that a list has with its head at a time.
+    fn with(&self, time: u64) -> f64 {
+        self.each(time).fold(0.0, f64::max)
+    }
+
+    fn take(&mut self, time: u64) {
+        self.taken = self.each(time).collect();
+    }
 }
 
 /// Bands that know whether another follows, and whether without a break.
@@ -194,9 +235,10 @@ pub fn placed<'a>(band: &Band, heads: &'a [Head], plot: &Plot) -> Vec<(&'a Head,
 }
 
 /// Whether all heads stand near their columns.
-fn near(bands: &[Band], heads: &[Head], plot: &Plot) -> bool {
-    let mut placed = bands.iter().flat_map(|band| placed(band, heads, plot));
-    placed.all(|(head, column, middle)| {
+fn near(bands: &[Band], heads: &[Vec<Head>], plot: &Plot) -> bool {
+    let lists = heads.iter();
+    let mut all = lists.flat_map(|list| bands.iter().flat_map(|band| placed(band, list, plot)));
+    all.all(|(head, column, middle)| {
         let far = FAR.max(FAR_IN_WIDTHS * head.width);
         (column - middle).abs() <= far
     })

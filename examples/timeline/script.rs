@@ -65,6 +65,29 @@ pub fn calls(script: &[u8], answers: &[u8]) -> Result<Vec<Call>, String> {
         .collect()
 }
 
+/// What is done by rounds that were asked for behind the script's last line.
+pub fn rounds_after(script: &[u8], answers: &[u8]) -> Result<Vec<Deed>, String> {
+    let asked = lines(script).len();
+    let further = lines(answers).into_iter().enumerate().skip(asked);
+    further
+        .map(|(place, answer)| {
+            deed(place + 1, "R", &answer)
+                .ok_or_else(|| format!("line {}: R cannot be answered by {answer}", place + 1))
+        })
+        .collect()
+}
+
+/// The answers to the script's own lines.
+pub fn answers_within<'a>(script: &[u8], answers: &'a [u8]) -> &'a [u8] {
+    let ends = answers
+        .iter()
+        .enumerate()
+        .filter(|(_, byte)| **byte == b'\n');
+    let count = lines(script).len();
+    let last = ends.take(count).last().map_or(0, |(place, _)| place + 1);
+    &answers[..last]
+}
+
 /// Lines end in LF, and the last may lack it. A line that is no command may
 /// hold any byte.
 fn lines(bytes: &[u8]) -> Vec<String> {

@@ -16,6 +16,7 @@ pub const EDGE: &str = "#8c8371";
 pub const SPAN: &str = "#c3daee";
 pub const SENT: &str = "#0f3b66";
 pub const REFUSED: &str = "#b00020";
+pub const BROKEN: &str = "#f4d4d8";
 
 /// A size, weight and colour of text.
 #[derive(Clone, Copy, Debug, PartialEq)]
@@ -86,12 +87,17 @@ pub enum Sign {
     Unsent,
     Gone,
     Round,
+    Broken,
+    Fault,
     Opening,
+    Last,
     Added,
     Removed,
     Forced,
+    Limit,
     Refused,
     Ahead,
+    Rest,
     Break,
     GoesOn,
 }

@@ -1,7 +1,7 @@
 //! Whole runs: wrong ones are errors, and good ones are drawn without text
 //! over text.
 
-use crate::drawn;
+use crate::{drawn, drawn_plan};
 
 /// A run's lines, written with " / " between.
 fn fault(script: &str, answers: &str) -> Option<String> {
@@ -94,5 +94,85 @@ fn the_examples_have_no_text_over_text() {
     for (script, answers) in examples {
         let (picture, height) = drawn(script, answers).expect("a good run");
         assert_eq!(picture.faults(height), Vec::<String>::new());
+    }
+}
+
+/// A plan of the acceptance examples, from the planner of most of them.
+macro_rules! plan {
+    ($name:literal) => {
+        include_bytes!(concat!("../acceptance/", $name, "/plan")).as_slice()
+    };
+}
+
+const PLANNER: &[u8] = include_bytes!("../acceptance/01-own-rounds/planner");
+
+fn plan_fault(plan: &[u8], verdict: &str) -> Option<String> {
+    let rounds = "R,0,2,2,1,2 / R,0,5,2,1,3 / R,0,8,2,1,2 / R,0,11,2,1,3";
+    let answers = format!("{ADDED} / {rounds}\n").replace(" / ", "\n");
+    match drawn_plan(PLANNER, answers.as_bytes(), plan, verdict.as_bytes()) {
+        Ok((picture, height)) => picture.faults(height).into_iter().next(),
+        Err(fault) => Some(fault),
+    }
+}
+
+#[test]
+fn plans_are_drawn_with_no_text_over_text() {
+    let breaks = |content: &str, rule: &str| {
+        format!("round 2 breaks a rule: {content}; rule {rule}, in many, many words (14)")
+    };
+    let good = [
+        (plan!("01-own-rounds"), String::from("sound, 3 rounds")),
+        (plan!("02-early-rounds"), String::from("sound, 3 rounds")),
+        (plan!("03-with-messages"), String::from("sound, 3 rounds")),
+        (plan!("05-no-rounds"), String::from("sound, 0 rounds")),
+        (plan!("08-past-the-gap"), breaks("start 10, ids 1 3", "2")),
+        (plan!("09-start-again"), breaks("start 2, no ids", "2")),
+        (plan!("10-id-not-held"), breaks("start 5, ids 1 4", "4")),
+        (plan!("11-unreleased"), breaks("start 3, ids 1 3", "4")),
+        (plan!("13-due-packet-left"), breaks("start 6, ids 3", "5")),
+        (
+            b"\0\0\0\x02\x02\x02\0\x01\0\x02\0",
+            breaks("1 byte left", "1"),
+        ),
+    ];
+    for (plan, verdict) in good {
+        assert_eq!(plan_fault(plan, &verdict), None, "{verdict}");
+    }
+}
+
+#[test]
+fn a_verdict_that_the_rounds_do_not_bear_out_is_an_error() {
+    let breaks = "round 2 breaks a rule: start 5, ids 1 3; rule 4, and why";
+    let wrong = [
+        (
+            plan!("13-due-packet-left"),
+            "sound, 3 rounds",
+            "round 2 passes, but",
+        ),
+        (
+            plan!("11-unreleased"),
+            "sound, 2 rounds",
+            "round 2 passes, but",
+        ),
+        (
+            plan!("01-own-rounds"),
+            breaks,
+            "round 2 is said to break rule 4",
+        ),
+        (
+            plan!("05-no-rounds"),
+            "sound, 1 round",
+            "the plan has fewer packets",
+        ),
+        (
+            plan!("01-own-rounds"),
+            "refused, 5: no",
+            "'refused, 5: no' is no",
+        ),
+    ];
+    for (plan, verdict, begin) in wrong {
+        let fault = plan_fault(plan, verdict);
+        let fault = fault.unwrap_or_else(|| panic!("{verdict} is drawn"));
+        assert!(fault.starts_with(begin), "{verdict}: {fault}");
     }
 }

@@ -45,13 +45,16 @@
 //!   ([`Planner::send`]), and a round lists them in the slots that its streams leave free. One slot
 //!   of each round is kept for them: the streams have a slot fewer, in every rule and every round
 //!   (Annex 3.16), so that a stream may be refused that fits with messages off.
+//! - **Plans of others.** [`Planner::check`] says of packets laid end to end, whoever made them,
+//!   whether they are a sound plan from a planner on, or which round is the first that breaks a rule.
 //! - **Version.** This crate is for version [`VERSION`] of the library, and a planner is made only
 //!   over a library that says it is of this version ([`check_version`]). Hosts on one bus run the
 //!   same version (Annex 13.8).
 //! - **Rust.** 1.81 or later.
 //! - **The machine.** A 64-bit x86 machine, for which the library is built.
-//! - **Stack.** A round takes some 22 kB, an add or a remove 16 kB, a send 11 kB, as measured and not
-//!   proved (Annex 13.9; `planner.h` has the figures). Nothing tests that there is as much.
+//! - **Stack.** A round takes some 22 kB, an add or a remove 16 kB, a check 15 kB, a send 11 kB, as
+//!   measured and not proved (Annex 13.9; `planner.h` has the figures). Nothing tests that there is
+//!   as much.
 //! - **No heap, no `std`.** The library needs `memcpy` and `memset` as C has them, and nothing else.
 //! - **Where the library is.** `build.rs` looks for `libplanner.a` in the directory that
 //!   `PLANNER_LIB_DIR` names; without it in `../lib`, as in the bundle, then in `../target/lib`. A
@@ -74,10 +77,10 @@ mod version;
 
 pub use limits::{FURTHEST_RELEASE, LAST_START, LONGEST_FRAME, LONGEST_GAP, LONGEST_PERIOD};
 pub use limits::{LARGEST_ID, LARGEST_MESSAGE, LEAST_MESSAGE, MOST_SLOTS, MOST_WAITING, PLACES};
-pub use planner::{Planner, Round, Setting, Stream};
+pub use planner::{Planner, Round, Setting, Stream, Verdict};
 pub use refusal::Refusal;
 pub use superframe::superframe;
 pub use version::{check_version, version};
 
 /// Annex 7.40: the version that this crate is for, the first number of the crate's own.
-pub const VERSION: u32 = 7;
+pub const VERSION: u32 = 8;

@@ -72,6 +72,18 @@ impl<'a> Round<'a> {
     }
 }
 
+/// Annex 14.12: what a check says of a plan.
+#[derive(Clone, Copy, Debug, PartialEq, Eq, Hash)]
+pub enum Verdict {
+    /// Annex 14.10: every round passes; none of bytes is such a plan too.
+    Sound,
+    /// Annex 14.11: the rounds before this one pass, and it breaks a rule.
+    Breaks {
+        /// The number of the round, counted from 1.
+        round: u32,
+    },
+}
+
 /// Annex 3.1: a planner, in the caller's memory: 3,936 bytes, and nothing on a heap.
 ///
 /// There is no `==`: two planners of equal content may differ in bytes that no answer depends on
@@ -189,6 +201,51 @@ impl Planner {
         Ok(Round { start: held.start, ids })
     }
 
+    /// Annex 14.1 to 14.12: checks a plan that begins at this planner: packets laid end to end, a
+    /// round each, of any maker. Any bytes may be passed, and nothing of them is taken on trust.
+    ///
+    /// A round breaks a rule if its packet is cut short, not good, or has another number of slots
+    /// (14.3); if it does not start after the round before, or starts more than gap after that one's
+    /// end (14.4); if it has more stream ids than there are slots for streams (14.5); if an id is no
+    /// stream's, or its packet is not released at the start or not due after it (14.6); or if after
+    /// it an unserved packet of any stream is due by its end (14.7). Messages are skipped. The order
+    /// of slots, free slots and which messages ride are not checked (14.14).
+    ///
+    /// A sound plan has no miss so far; that it can go on without one is not said (14.15).
+    ///
+    /// # Errors
+    ///
+    /// 5 if the planner is not sound, with no bytes too.
+    ///
+    /// ```
+    /// use planner::{Planner, Setting, Stream, Verdict};
+    ///
+    /// let setting = Setting { slots: 2, frame: 6, gap: 6, last: 0, messages: false };
+    /// let mut planner = Planner::open(setting)?;
+    /// planner.add(Stream { id: 1, release: 1, period: 3, deadline: 2 })?;
+    ///
+    /// // two rounds of another supplier, at 2 and at 4, each with a slot for stream 1
+    /// let plan = [[0, 0, 0, 2, 2, 1, 0, 1], [0, 0, 0, 4, 2, 1, 0, 1]].concat();
+    /// assert_eq!(planner.check(&plan)?, Verdict::Sound);
+    ///
+    /// // the second at 6 instead: the packet that is due then is late
+    /// let plan = [[0, 0, 0, 2, 2, 1, 0, 1], [0, 0, 0, 6, 2, 1, 0, 1]].concat();
+    /// assert_eq!(planner.check(&plan)?, Verdict::Breaks { round: 2 });
+    /// # Ok::<(), planner::Refusal>(())
+    /// ```
+    #[inline]
+    pub fn check(&self, plan: &[u8]) -> Result<Verdict, Refusal> {
+        // SAFETY: Annex 7.39: a planner whose every byte has a value, and a slice of that length,
+        // both borrowed, so that nobody writes them meanwhile; the call only reads. The pointer of
+        // an empty slice is not null, and length 0 has nothing read there.
+        let verdict = unsafe { raw::planner_check(&self.raw, plan.as_ptr(), plan.len()) };
+        answered(verdict.answer)?;
+        Ok(match verdict.round {
+            0 => Verdict::Sound,
+            round => Verdict::Breaks { round },
+        })
+    }
+
     /// Annex 3.1: B, the slots of a round.
     pub fn slots(&self) -> u32 {
         self.raw.slots
@@ -244,11 +301,12 @@ impl Planner {
 /// A host that takes over from another of the same kind gets a planner's bytes, whole (Annex 7.38).
 ///
 /// Any bytes may be handed in. That is safe, since no byte of a planner is padding and every bit
-/// pattern is a value, and since each of add, remove, send and round tests the whole planner first,
-/// as it does anyway, and refuses one that is not sound with 5. So `remove(0)` tests a planner and
-/// changes nothing, as no stream has id 0: it is refused with 5, and of a sound planner with 14
-/// (Annex 7.22). 5 is no checksum: a planner that was damaged and is still sound is used as it
-/// stands, and who has to find every damage keeps a checksum beside the bytes (Annex 13.7).
+/// pattern is a value, and since each of add, remove, send, round and check tests the whole planner
+/// first, as it does anyway, and refuses one that is not sound with 5. So `check(&[])` tests a
+/// planner and changes nothing: it is refused with 5, and of a sound planner it says that a plan of
+/// no rounds is sound (Annex 14.12). 5 is no checksum: a planner that was damaged and is still sound
+/// is used as it stands, and who has to find every damage keeps a checksum beside the bytes (Annex
+/// 13.7).
 impl Planner {
     /// Annex 7.38: the bytes, numbers in the machine's own order, for a host that takes over.
     pub fn as_bytes(&self) -> &[u8; Planner::BYTES] {

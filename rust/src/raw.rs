@@ -114,6 +114,17 @@ pub struct Held {
     pub n: u32,
 }
 
+/// Annex 14.12: what a check of a plan answers: 0 and 0 of a sound plan; 0 and the number, from 1, of
+/// the first round that breaks a rule; 5 and 0 if the planner is not sound.
+#[repr(C)]
+#[derive(Clone, Copy, Debug, PartialEq, Eq)]
+pub struct Verdict {
+    /// 0, or 5.
+    pub answer: u32,
+    /// The round, from 1; 0 for none.
+    pub round: u32,
+}
+
 /// Annex 10.7: what a read gives: start, B and n, all 0 if refused.
 #[repr(C)]
 #[derive(Clone, Copy, Debug, PartialEq, Eq)]
@@ -168,6 +179,8 @@ const _: () = {
     assert!(offset_of!(Planner, table) == 88 && offset_of!(Planner, queue) == 1120);
     assert!(size_of::<Held>() == 12 && offset_of!(Held, answer) == 0);
     assert!(offset_of!(Held, start) == 4 && offset_of!(Held, n) == 8);
+    assert!(size_of::<Verdict>() == 8 && offset_of!(Verdict, answer) == 0);
+    assert!(offset_of!(Verdict, round) == 4);
     assert!(size_of::<Header>() == 16 && offset_of!(Header, answer) == 0);
     assert!(offset_of!(Header, start) == 4 && offset_of!(Header, slots) == 8);
     assert!(offset_of!(Header, n) == 12);
@@ -210,6 +223,10 @@ extern "C" {
 
     /// Annex 7.36: how many elements of the buffer a round that answered n has filled.
     pub fn planner_filled(buffer: *const u16, length: usize, n: u32) -> usize;
+
+    /// Annex 14.1 to 14.12: checks a plan, packets laid end to end, from this planner on; refuses 5.
+    /// It stores nothing in planner or plan.
+    pub fn planner_check(p: *const Planner, plan: *const u8, length: usize) -> Verdict;
 
     /// Annex 7.40: the version of the planner's calls.
     pub fn planner_version() -> u32;

@@ -19,8 +19,8 @@ pub enum Refusal {
     BadGap = 3,
     /// Annex 7.6: `last`, T, is above 1,000,000,000.
     BadLast = 4,
-    /// Annex 7.11, 7.22, 7.25 and 7.42: the planner is not sound. It came from bytes or fields
-    /// (`from_bytes`, `from_raw`), and these were damaged or no planner's.
+    /// Annex 7.11, 7.22, 7.25, 7.42 and 14.12: the planner is not sound. It came from bytes or
+    /// fields (`from_bytes`, `from_raw`), and these were damaged or no planner's.
     NotSound = 5,
     /// Annex 7.12: the id is not 1 to 32,767.
     BadId = 6,

@@ -52,7 +52,7 @@ pub const BUCKET_COUNT: usize = BUCKETS as usize;
 pub const LAST_BUCKET: usize = KEY_SPAN as usize;
 
 // The number of this version, which the libraries for C give.
-pub const VERSION: u32 = 7;
+pub const VERSION: u32 = 8;
 
 // Whether a number is 1 to a limit.
 pub fn is_one_to(n: u32, most: u32) -> bool

@@ -4,14 +4,18 @@
 //   D,ID: ANSWER
 //   S,NUMBER: ANSWER
 //   R LENGTH: ANSWER START N ELEMENT ..     with a buffer of LENGTH elements, each of which was 0; all of them are printed
-// A call is written as a line of vectors/library, which says it again to any other host; `call_of` reads it.
+//   C,BYTES: ANSWER ROUND PASSED RULE AT    of a plan in hex, the verdict, and behind it what was found: how many rounds passed, which rule the
+//                                           next one breaks, and how many bytes passed
+// A call is written as a line of vectors/library, which says it again to any other host; `call_of` reads it, all but a check.
 ghost use Prim.Native.Nat.{_≤_};
 use io::print_decimal;
 use line::Line;
 use planner::Changed;
 use planner::Planner;
+use text::say;
 
 pub mod line;
+pub mod memory;
 
 // A call, with its numbers in the order of its line.
 pub enum Call {
@@ -40,10 +44,6 @@ pub fn call_of(line: Line) -> Call {
         b'S' => Call::Send(x[1]),
         _ => Call::Round(x[1]),
     }
-}
-
-fn say(text: &[u8]) {
-    io::write_all(1, text);
 }
 
 fn say_number(before: &[u8], x: u32) {
@@ -148,4 +148,22 @@ pub fn make(p: Planner, call: Call) -> Answered {
         Call::Round(length) => round(p, length),
         _ => changed(change(p, call)),
     }
+}
+
+// A check, which leaves the planner as it is. What is found has the answer of the verdict, or the line says that it differs.
+pub fn check(p: Planner, plan: &[u8]) {
+    let verdict = checker::check(p, plan);
+    let found = checker::find(p, plan);
+    say(b"C,");
+    text::print_hex(plan);
+    say_number(b": ", verdict.answer);
+    say_number(b" ", verdict.round);
+    say_number(b" ", found.passed);
+    say_number(b" ", found.rule);
+    say(b" ");
+    print_decimal(1, found.at as u64);
+    if found.answer != verdict.answer {
+        say(b" differs");
+    }
+    say(b"\n");
 }

@@ -73,3 +73,13 @@ pub fn with_byte(line: Line, c: u8) -> Line {
         _ => line,
     }
 }
+
+pub fn line_of(text: &[u8]) -> Line {
+    let mut line = empty();
+    let mut i: usize = 0;
+    while i < text.len() {
+        line = with_byte(line, text[i]);
+        i += 1;
+    }
+    line
+}

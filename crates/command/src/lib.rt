@@ -1,5 +1,6 @@
 // The command program's lines: what a line of bytes says, what the planner answers to it, and how that is written.
 pub use lines::Reached;
+pub use lines::line_end_in_range;
 pub use lines::run_last_in_range;
 pub use lines::run_lines_in_range;
 pub use print::ROOM;

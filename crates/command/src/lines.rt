@@ -16,7 +16,7 @@ pub struct Reached {
 }
 
 // The place of the first byte 10 from `from` on, or the length where there is none.
-fn line_end_in_range(bytes: &[u8], from: usize) -> usize
+pub fn line_end_in_range(bytes: &[u8], from: usize) -> usize
     requires { ⌜ from ≤ length (now bytes) ⌝ }
     ensures { λ r. ⌜ IsLineEnd (now (bytes .entry)) from r ⌝ }
 {

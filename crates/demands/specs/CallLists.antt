@@ -1,10 +1,10 @@
 -- Lists of calls, as demand 3 speaks of them: what the calls answered, and what stands in the buffers when they return. Annex, chapter 12.
 use mathlib.Core.Path.{_≡_}
 use mathlib.Core.Logic.{_⊎_}
-use mathlib.Core.List.{List, [], _∷_, _++_, filter}
+use mathlib.Core.List.{List, [], _∷_, _++_}
 use Prim.Native.Nat.{ℕ, _+_, _≤_, _<_}
-use native.Mathlib.Decide.{ℕ-discrete}
-use lib.ListN.{length, take, getD}
+use lib.ListN.{take, getD}
+use Rattle.basics.specs.Counts.{times-in}
 use Rattle.basics.specs.Refusals.{Refusal}
 use Rattle.rules.specs.Streams.{Stream, packet, MayRide}
 use Rattle.planner.specs.Content.{Content, content}
@@ -51,10 +51,6 @@ ClockEnded (asked calls _ _ _ _) = ClockEnded calls
 ClockEnded (sent calls _ _ _) = ClockEnded calls
 ClockEnded (refused calls _ _ r _ _) = (r .answer ≡ 17) ⊎ ClockEnded calls
 ClockEnded (held calls _ _ _ _ _) = ClockEnded calls
-
--- Annex 12.8: how often an id stands in a list of ids.
-unfoldable pub times-in : ℕ → List ℕ → ℕ
-times-in id ids = length (filter (λ (x : ℕ). ℕ-discrete x id) ids)
 
 -- Annex 12.8: how often it stands in the held rounds.
 unfoldable pub times-sent : ℕ → List HeldRound → ℕ

@@ -12,6 +12,10 @@ pub mod Three
 pub mod Leaving
 pub mod Mail
 pub mod Packets
+pub mod OwnRounds
+pub mod InFront
+pub mod Foreign
+pub mod SameVerdicts
 pub mod StarredCases
 pub mod ForcedRounds
 pub mod Reached

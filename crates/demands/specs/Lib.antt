@@ -1,5 +1,5 @@
--- The three demands, a held round as a packet, and worked cases. A reader has to believe CallLists, Rivals, OtherCalls, One, Two, Three, Mail,
--- Packets and Cases. Decide has deciders, and Facts proves what they state.
+-- The three demands, a held round as a packet, plans of others beside the planner's own, and worked cases. A reader has to believe CallLists, Rivals,
+-- OtherCalls, One, Two, Three, Mail, Packets, Foreign and Cases. Decide has deciders, and Facts proves what they state.
 pub mod CallLists
 pub mod Rivals
 pub mod Decide
@@ -9,5 +9,6 @@ pub mod Two
 pub mod Three
 pub mod Mail
 pub mod Packets
+pub mod Foreign
 pub mod Cases
 pub mod Facts

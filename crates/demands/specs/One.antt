@@ -1,23 +1,26 @@
 -- Demand 1: nothing on trust. Annex, chapter 12.
 -- That calls end and stay inside their buffers is what the checker proves of every function, and no call of an interface has a `requires`.
 use mathlib.Core.Path.{_≡_}
-use mathlib.Core.List.{List}
+use mathlib.Core.List.{List, [], _∷_}
 use Prim.Native.Nat.{ℕ}
-use Rattle.basics.specs.Refusals.{FirstOf}
+use Rattle.basics.specs.Refusals.{Refusal, FirstOf}
 use Rattle.planner.specs.Content.{content}
 use Rattle.planner.specs.Sound.{Sound}
 use Rattle.planner.specs.Open.{zeros, open-refusals, opened, IsFresh, IsOpened}
 use Rattle.planner.specs.declared.Offer.{Offer}
-use Rattle.planner.specs.AddRemove.{add-refusals, remove-refusals, IsAdd, IsRemove}
+use Rattle.planner.specs.AddRemove.{unsound, add-refusals, remove-refusals, IsAdd, IsRemove}
 use Rattle.planner.specs.Send.{send-refusals, IsSend}
 use Rattle.planner.specs.Round.{round-refusals, IsRefusedRound, IsRound}
 use Rattle.planner.specs.declared.Setting.{Setting}
 use Rattle.planner.specs.declared.Planner.{Planner}
 use Rattle.planner.specs.declared.Changed.{Changed}
 use Rattle.planner.specs.declared.Rounded.{Rounded}
-use Rattle.lent.specs.Lent.{IsLentOpen, IsLentAdd, IsLentRemove, IsLentSend, IsLentRound}
+use Rattle.lent.specs.Lent.{IsLentOpen, IsLentAdd, IsLentRemove, IsLentSend, IsLentRound, IsLentCheck}
 use Rattle.lent.specs.declared.Held.{Held}
-use Rattle.demands.specs.OtherCalls.{OtherCallsMeet}
+use Rattle.checker.specs.Verdicts.{verdict, IsVerdict, finding, IsFinding}
+use Rattle.checker.specs.declared.Verdict.{Verdict}
+use Rattle.checker.specs.declared.Finding.{Finding}
+use Rattle.demands.specs.OtherCalls.{Meets, OtherCallsMeet}
 
 -- Annex 12.2, 12.3: open gives the first number that applies, else 0; success gives a sound planner with what was passed, L = T and no stream, a
 -- refusal the closed one, which is not sound.
@@ -52,8 +55,17 @@ pub record RoundMeets (p : Planner) (before after : List ℕ) (r : Rounded) : Ty
   pub unchanged : (r .answer ≡ 0 → ⊥) → IsRefusedRound p before after r
   pub sound : Sound p → Sound (r .planner)
 
+-- Annex 12.2, 14.12: check and find refuse 5 alone.
+abbrev pub check-refusals : Planner → List Refusal
+check-refusals p = unsound p ∷ []
+
+-- Annex 12.2, 14.12: check gives the first number that applies, else 0; a refusal gives no round. It is handed nothing that it could change.
+abbrev pub CheckMeets : Planner → Verdict → Type 1
+CheckMeets p r = Meets (check-refusals p) (r .answer) (r ≡ verdict (r .answer) 0)
+
 -- Annex 7.1, 11.10, 12.1, 12.3: all five calls, by value and over a lent planner, on any planner, sound or not, any numbers and any buffer, by the
--- contracts that their code is proved to meet, and the other calls likewise; nothing is asked of the caller.
+-- contracts that their code is proved to meet; check, in both forms, and find, on any planner and any bytes; and the other calls likewise. Nothing is asked
+-- of the caller.
 pub record Demand1 : Type 1 where
   pub open-meets : (s : Setting) (t : ℕ) (r : Changed) → IsOpened s t r → OpenMeets s t r
   pub add-meets : (p : Planner) (o : Offer) (r : Changed) → IsAdd p o r → AddMeets p o r
@@ -69,4 +81,7 @@ pub record Demand1 : Type 1 where
       → SendMeets before n (record { answer = r; planner = after })
   pub lent-round-meets : (before : Planner) (buffer written : List ℕ) (after : Planner) (r : Held) → IsLentRound before buffer written after r
       → RoundMeets before buffer written (record { answer = r .answer; planner = after; start = r .start; n = r .n })
+  pub check-meets : (p : Planner) (plan : List ℕ) (r : Verdict) → IsVerdict p plan r → CheckMeets p r
+  pub lent-check-meets : (p : Planner) (plan : List ℕ) (r : Verdict) → IsLentCheck p plan r → CheckMeets p r
+  pub find-meets : (p : Planner) (plan : List ℕ) (r : Finding) → IsFinding p plan r → Meets (check-refusals p) (r .answer) (r ≡ finding (r .answer) 0 0 0)
   pub others : OtherCallsMeet

@@ -1,11 +1,13 @@
-// The planner that the firmware keeps and lends to each call to be changed: thin forms over the calls by value, exported to C.
-// A refused call stores nothing (Annex 7.37, 13.6): add, remove, send and round store the planner only where the answer is 0; open stores always.
+// The planner that the firmware keeps and lends to each call, to be changed, or by check to be read: thin forms over the calls by value, exported to C.
+// A refused call stores nothing (Annex 7.37, 13.6): add, remove, send and round store the planner only where the answer is 0; open stores always, and
+// check never (Annex 14.16).
 ghost use mathlib.Core.Path.{_≡_};
 ghost use lib.ListN.{length, take};
 ghost use Rattle.basics.specs.Version.{version};
 ghost use Rattle.planner.specs.Open.{setting};
 ghost use Rattle.planner.specs.AddRemove.{offer};
-ghost use Rattle.lent.specs.Lent.{IsLentOpen, IsLentAdd, IsLentRemove, IsLentSend, IsLentRound};
+ghost use Rattle.lent.specs.Lent.{IsLentOpen, IsLentAdd, IsLentRemove, IsLentSend, IsLentRound, IsLentCheck};
+use checker::Verdict;
 use planner::Planner;
 
 // What a round answers beside the planner: its start and the count of numbers written, both 0 if refused.
@@ -89,6 +91,14 @@ pub extern "C" fn planner_round(p: &mut Planner, buffer: &mut [u16]) -> Held
         start: rounded.start,
         n: rounded.n,
     }
+}
+
+// Checks a plan that somebody else made from the lent planner on, and stores nothing in either; the answer is that of check.
+#[no_mangle]
+pub extern "C" fn planner_check(p: &Planner, plan: &[u8]) -> Verdict
+    ensures { λ r. ⌜ IsLentCheck (now (p .entry)) (now (plan .entry)) r ⌝ }
+{
+    checker::check(*p, plan)
 }
 
 // Annex 7.36: how long the part is that `planner::filled` hands back: C takes that many places from the front of its own buffer.

@@ -1,16 +1,14 @@
 // Makes the calls of standard input, a line each, on one planner, which begins closed, and prints each with its answer, as the crate calls does:
 //   O,B,F,G,T,MESSAGES   A,ID,S,P,D   D,ID   S,NUMBER   R LENGTH
-// A line with a small letter sets a number in the planner that is kept, and is answered by nothing:
-//   b VALUE   m VALUE   c VALUE   n VALUE     its B, whether messages are on, the count of those that wait, the first of them
+// A line with a small letter sets a number in the planner that is kept, and is answered by nothing: `memory` of the crate calls says which.
 // A line that begins with # is printed as it is.
 // The cases are those of messages, every refusal on its edge. The expected output is written by hand; what it has to be says the Annex, 3.14 to
 // 3.17 and chapter 7.
 use calls::call_of;
 use calls::line;
 use calls::line::Line;
+use calls::memory;
 use planner::Planner;
-
-mod memory;
 
 fn print_byte(c: u8) {
     let byte = [c];

@@ -8,6 +8,10 @@ use Rattle.packet_bytes.specs.Layout.{Values}
 abbrev pub largest-byte : ℕ
 largest-byte = 255
 
+-- The most ids that are read from a packet: no good one has more.
+abbrev pub most-read : ℕ
+most-read = 64
+
 -- The ids in a list of bytes, two bytes each; a byte left over is passed over.
 unfoldable pub ids-in : List ℕ → List ℕ
 ids-in [] = []

@@ -4,7 +4,7 @@ ghost use mathlib.Core.List.{_++_};
 ghost use Prim.Native.Nat.{_+_, _*_, _≤_};
 ghost use lib.ListN.{length, take, drop};
 ghost use Rattle.packet_bytes.specs.Layout.{header-bytes, id-bytes};
-ghost use Rattle.packet_bytes.specs.Parts.{largest-byte, start-in, ids-in};
+ghost use Rattle.packet_bytes.specs.Parts.{largest-byte, most-read, start-in, ids-in};
 
 // A byte in 32 bits.
 pub fn wide(x: u8) -> u32
@@ -55,12 +55,12 @@ pub fn start_of_header(packet: &[u8]) -> u32
     wide(packet[0]) * 16777216 + wide(packet[1]) * 65536 + wide(packet[2]) * 256 + wide(packet[3])
 }
 
-// The ids in a part of n pairs of bytes, in the first n places: no packet says more than 255.
-pub fn ids_of_pairs(part: &[u8], n: usize) -> [u16; 255]
-    requires { ⌜ (length (now part) ≡ 2 * n) × (n ≤ largest-byte) ⌝ }
+// The ids in a part of n pairs of bytes, in the first n places: no good packet has more than 64.
+pub fn ids_of_pairs(part: &[u8], n: usize) -> [u16; 64]
+    requires { ⌜ (length (now part) ≡ 2 * n) × (n ≤ most-read) ⌝ }
     ensures { λ r. ⌜ take n r ≡ ids-in (now (part .entry)) ⌝ }
 {
-    let mut ids = [0u16; 255];
+    let mut ids = [0u16; 64];
     let mut k: usize = 0;
     while k < n {
         ids[k] = pair(part[2 * k], part[2 * k + 1]);

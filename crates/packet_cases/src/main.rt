@@ -5,41 +5,22 @@
 //   P ANSWER START B N LENGTH IDS   what was read; the length of the part that the second call gives, and its bytes in hex
 //   W ANSWER BYTES                  all bytes of the buffer in hex, which held ee before
 // The cases are the edges of the Annex's chapter 10, vectors/library/packets; what is to be printed is what the oracle answers.
-ghost use Prim.Native.Nat.{_≤_};
-ghost use lib.ListN.{length};
 use io::print_decimal;
 use packets::packet_ids;
 use packets::packet_ids_length;
 use packets::packet_read;
 use packets::packet_write;
-
-const MOST_DIGITS: usize = 1200;
-
-fn say(text: &[u8]) {
-    io::write_all(1, text);
-}
-
-fn print_digit(x: u8) {
-    let low = x % 16;
-    let digit = [if low < 10 {
-        b'0' + low
-    } else {
-        b'a' + (low - 10)
-    }];
-    say(&digit);
-}
+use text::bytes_in;
+use text::line_end;
+use text::print_hex;
+use text::say;
 
 // Two digits a byte; a dash where there is none.
-fn print_hex(bytes: &[u8]) {
+fn print_bytes(bytes: &[u8]) {
     if bytes.len() == 0 {
         say(b"-");
     }
-    let mut i: usize = 0;
-    while i < bytes.len() {
-        print_digit(bytes[i] / 16);
-        print_digit(bytes[i]);
-        i += 1;
-    }
+    print_hex(bytes);
 }
 
 fn print_field(x: u64) {
@@ -56,7 +37,7 @@ fn try_read(packet: &[u8]) {
     print_field(header.n as u64);
     print_field(packet_ids_length(packet) as u64);
     say(b" ");
-    print_hex(packet_ids(packet));
+    print_bytes(packet_ids(packet));
     say(b"\n");
 }
 
@@ -65,52 +46,8 @@ fn try_write<'a>(start: u32, slots: u32, ids: &'a [u16], buffer: &'a mut [u8]) {
     say(b"W");
     print_field(answer as u64);
     say(b" ");
-    print_hex(buffer);
+    print_bytes(buffer);
     say(b"\n");
-}
-
-// The value of a hex digit; 16 for any other byte.
-fn digit_value(c: u8) -> u8 {
-    if c < b'0' {
-        return 16;
-    }
-    if c <= b'9' {
-        return c - b'0';
-    }
-    if c < b'a' {
-        return 16;
-    }
-    if c <= b'f' {
-        return c - b'a' + 10;
-    }
-    16
-}
-
-// Puts digit d of the line into its byte, and counts it; anything else is passed over.
-fn put_digit(bytes: &mut [u8], d: usize, value: u8) -> usize {
-    let at = d / 2;
-    if 15 < value {
-        return d;
-    }
-    if MOST_DIGITS <= d {
-        return d;
-    }
-    if bytes.len() <= at {
-        return d;
-    }
-    bytes[at] = bytes[at] % 16 * 16 + value;
-    d + 1
-}
-
-// The bytes that a line writes in hex; how many they are.
-fn bytes_in<'a>(line: &'a [u8], bytes: &'a mut [u8]) -> usize {
-    let mut d: usize = 0;
-    let mut i: usize = 0;
-    while i < line.len() {
-        d = put_digit(bytes, d, digit_value(line[i]));
-        i += 1;
-    }
-    d / 2
 }
 
 fn followed_by(x: u32, byte: u8) -> u32 {
@@ -200,21 +137,6 @@ fn run_line(line: &[u8]) {
     let mut bytes = [0u8; 600];
     let n = bytes_in(&line[1..], &mut bytes);
     run_case(line[0], &bytes, n);
-}
-
-// The end of the line that begins at a place: of its LF, or of the text.
-fn line_end(text: &[u8], from: usize) -> usize
-    requires { ⌜ from ≤ length (now text) ⌝ }
-    ensures { λ r. ⌜ (from ≤ r) × (r ≤ length (now (text .entry))) ⌝ }
-{
-    let mut at = from;
-    while at < text.len() {
-        if text[at] == b'\n' {
-            return at;
-        }
-        at += 1;
-    }
-    at
 }
 
 fn run_lines(text: &[u8]) {

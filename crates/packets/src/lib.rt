@@ -30,7 +30,7 @@ pub struct Header {
 }
 
 // Whether values are those of a good packet.
-fn are_good(start: u32, slots: u32, ids: &[u16]) -> bool
+pub fn are_good(start: u32, slots: u32, ids: &[u16]) -> bool
     ensures { λ r. ⌜ Decides r (IsGood (record { start = start; slots = slots; ids = now (ids .entry) })) ⌝ }
 {
     if LAST_START < start {
@@ -66,7 +66,7 @@ pub extern "C" fn packet_write<'a>(
     0
 }
 
-// 26 for a wrong length, 27 for a value that is not good, else 0.
+// 26 for a wrong length, 27 for a value that is not good, else 0. Numbers past the largest B are not read: no good packet has so many.
 fn read_refusal(packet: &[u8]) -> u32
     ensures { λ r. ⌜ r ≡ answer-of (read-refusals (now (packet .entry))) ⌝ }
 {
@@ -76,6 +76,9 @@ fn read_refusal(packet: &[u8]) -> u32
     let n = wide(packet[5]) as usize;
     if packet.len() != 6 + 2 * n {
         return 26;
+    }
+    if (MOST_SLOTS as usize) < n {
+        return 27;
     }
     let ids = ids_of_pairs(&packet[6..], n);
     if !are_good(start_of_header(packet), wide(packet[4]), &ids[..n]) {

@@ -10,6 +10,7 @@ pub use offers::add;
 pub use opening::open;
 use queue::Queue;
 pub use sending::send;
+pub use soundness::sound_start;
 use table::Table;
 
 mod offers;

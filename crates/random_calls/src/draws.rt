@@ -28,3 +28,15 @@ pub fn six_after(draw: u32) -> Draws {
 pub fn mood(e: u32) -> u32 {
     MOODS[(e / 8 % 8) as usize]
 }
+
+// x modulo n; 0 with n = 0.
+pub fn modulo(x: u32, n: u32) -> u32 {
+    if n == 0 {
+        return 0;
+    }
+    x % n
+}
+
+pub fn lesser(x: u32, y: u32) -> u32 {
+    if x < y { x } else { y }
+}

@@ -1,5 +1,7 @@
 // The next call and its numbers. Sums are taken modulo 2^32, which none of them reaches.
 use super::draws::Draws;
+use super::draws::lesser;
+use super::draws::modulo;
 use super::draws::mood;
 use super::seen::Seen;
 use calls::Call;
@@ -58,18 +60,6 @@ const PERIODS: [u32; 8] = [1, 2, 3, 6, 12, 24, 120, 240];
 
 const NUMBERS: [u32; 8] = [0, 32767, 32768, 65535, 65536, 98304, 105536, LARGEST];
 
-// x modulo n; 0 with n = 0.
-fn modulo(x: u32, n: u32) -> u32 {
-    if n == 0 {
-        return 0;
-    }
-    x % n
-}
-
-fn lesser(x: u32, y: u32) -> u32 {
-    if x < y { x } else { y }
-}
-
 // One k in so many is an opening.
 fn between_openings(slots: u32, mood: u32) -> u32 {
     if slots == 0 {
@@ -81,11 +71,27 @@ fn between_openings(slots: u32, mood: u32) -> u32 {
     48
 }
 
+fn is_opening(seen: Seen, d: Draws) -> bool {
+    modulo(d.k, between_openings(seen.slots, seen.mood)) == 0
+}
+
+fn share(d: Draws) -> u32 {
+    d.k / 256 % 22
+}
+
+pub fn is_check(seen: Seen, d: Draws) -> bool {
+    if is_opening(seen, d) {
+        return false;
+    }
+    15 < share(d)
+}
+
+// The next call, where it is no check.
 pub fn call(seen: Seen, d: Draws) -> Call {
-    if modulo(d.k, between_openings(seen.slots, seen.mood)) == 0 {
+    if is_opening(seen, d) {
         return opening(d, mood(d.e));
     }
-    let x = d.k / 256 % 16;
+    let x = share(d);
     let mood = (seen.mood % 4) as usize;
     let adds = ADDS[mood];
     if x < adds {
@@ -150,7 +156,7 @@ fn addition(seen: Seen, d: Draws) -> Call {
     )
 }
 
-fn id(mood: u32, draw: u32) -> u32 {
+pub fn id(mood: u32, draw: u32) -> u32 {
     let rest = draw / 64;
     match draw % 64 {
         0 => 0,
@@ -215,7 +221,7 @@ fn deadline(mood: u32, held: bool, draw: u32, period: u32) -> u32 {
     wrapping_add_u32(1, modulo(draw / 32, period))
 }
 
-fn number(draw: u32) -> u32 {
+pub fn number(draw: u32) -> u32 {
     let row = draw % 32;
     match row {
         0..=7 => NUMBERS[row as usize],

@@ -60,3 +60,7 @@ pub fn after(seen: Seen, d: Draws, call: Call, answer: u32, start: u32) -> Seen 
         _ => changed(seen, seen.last, false),
     }
 }
+
+pub fn after_check(seen: Seen) -> Seen {
+    changed(seen, seen.last, false)
+}

@@ -12,7 +12,8 @@ use Rattle.rules.specs.Runs
 use Rattle.rules.specs.Facts.Lists.{mem-nonempty, no-longer}
 use Rattle.rules.specs.Facts.RoundKept.{passed-elim}
 use Rattle.rules.specs.Facts.Packets.{advanced, advanced-next}
-use Rattle.demands.specs.CallLists.{HeldRound, times-in, times-sent, end-of, start-of}
+use Rattle.basics.specs.Counts.{times-in}
+use Rattle.demands.specs.CallLists.{HeldRound, times-sent, end-of, start-of}
 
 module _ (id : ℕ) (ids : List ℕ) (differ : List·Nodup ids) where
   abbrev same : List ℕ

@@ -28,7 +28,8 @@ use Rattle.planner.specs.Facts.Calls.{refused-change, success-change, refused-r
 use Rattle.planner.specs.declared.Planner.{Planner}
 use Rattle.planner.specs.declared.Rounded.{Rounded}
 use Rattle.demands.specs.CallLists.{Calls, none, asked, sent, refused, held, ClockEnded}
-use Rattle.demands.specs.CallLists.{HeldRound, held-round, times-in, times-sent, IsSentInTime}
+use Rattle.basics.specs.Counts.{times-in}
+use Rattle.demands.specs.CallLists.{HeldRound, held-round, times-sent, IsSentInTime}
 use Rattle.demands.specs.Facts.CallLists.{stands-once, stands-never, times-sent-snoc, passes-as-sent, last-of, last-snoc}
 use Rattle.demands.specs.Facts.EndlessRounds.{state-of}
 use Rattle.demands.specs.Facts.Written.{ids-written}

@@ -1,9 +1,10 @@
 -- Demand 1 is met.
-use mathlib.Core.Path.{_≡_, sym, _∙_}
+use mathlib.Core.Path.{_≡_, refl, sym, _∙_}
 use mathlib.Core.List.{List}
 use Prim.Native.Nat.{ℕ}
+use Rattle.basics.specs.Refusals.{none, here, later}
 use Rattle.planner.specs.Open.{zeros, opened, IsFresh, IsOpened}
-use Rattle.planner.specs.AddRemove.{IsAdd, IsRemove}
+use Rattle.planner.specs.AddRemove.{unsound, IsAdd, IsRemove}
 use Rattle.planner.specs.Send.{IsSend}
 use Rattle.planner.specs.Round.{IsRound}
 use Rattle.planner.specs.Facts.Open.{open-success-is-sound, closed-is-not-sound}
@@ -13,7 +14,11 @@ use Rattle.planner.specs.declared.Planner.{Planner}
 use Rattle.planner.specs.declared.Offer.{Offer}
 use Rattle.planner.specs.declared.Changed.{Changed}
 use Rattle.planner.specs.declared.Rounded.{Rounded}
-use Rattle.demands.specs.One.{OpenMeets, AddMeets, RemoveMeets, SendMeets, RoundMeets, Demand1}
+use Rattle.checker.specs.Verdicts.{IsVerdict, not-sound, sound, breaks, finding, IsFinding, refused, all-pass, one-breaks}
+use Rattle.checker.specs.declared.Verdict.{Verdict}
+use Rattle.checker.specs.declared.Finding.{Finding}
+use Rattle.demands.specs.OtherCalls.{Meets}
+use Rattle.demands.specs.One.{OpenMeets, AddMeets, RemoveMeets, SendMeets, RoundMeets, CheckMeets, check-refusals, Demand1}
 use Rattle.demands.specs.Facts.OtherCalls.{other-calls-meet}
 
 -- open, of what it hands back
@@ -41,6 +46,18 @@ send-meets-it p n r is = record { answer = answers-first (is .answer); unchanged
 round-meets-it : (p : Planner) (before after : List ℕ) (r : Rounded) → IsRound p before after r → RoundMeets p before after r
 round-meets-it p before after r is = record { answer = answers-first (is .answer); unchanged = refused-round is; sound = round-keeps-sound is }
 
+-- check, and find, refuse 5 alone, and then tell nothing
+check-meets-it : (p : Planner) (plan : List ℕ) (r : Verdict) → IsVerdict p plan r → CheckMeets p r
+check-meets-it p plan r (not-sound bad) = record { first = here bad; refused = λ _. refl }
+check-meets-it p plan r (sound holds _) = record { first = later {r = unsound p} (λ bad. bad holds) none; refused = λ _. refl }
+check-meets-it p plan r (breaks holds _ _) = record { first = later {r = unsound p} (λ bad. bad holds) none; refused = λ nonzero. absurd (nonzero refl) }
+
+find-meets-it : (p : Planner) (plan : List ℕ) (r : Finding) → IsFinding p plan r → Meets (check-refusals p) (r .answer) (r ≡ finding (r .answer) 0 0 0)
+find-meets-it p plan r (refused bad) = record { first = here bad; refused = λ _. refl }
+find-meets-it p plan r (all-pass holds _) = record { first = later {r = unsound p} (λ bad. bad holds) none; refused = λ nonzero. absurd (nonzero refl) }
+find-meets-it p plan r (one-breaks holds _ _ _ _) =
+    record { first = later {r = unsound p} (λ bad. bad holds) none; refused = λ nonzero. absurd (nonzero refl) }
+
 -- Annex 12.2, 12.3: the contracts of all calls meet demand 1: of the five, over a lent planner the same, and of the others
 pub demand-1 : Demand1
 demand-1 =
@@ -56,5 +73,8 @@ demand-1 =
       lent-send-meets = λ before n after r is. send-meets-it before n (record { answer = r; planner = after }) is;
       lent-round-meets = λ before buffer written after r is.
           round-meets-it before buffer written (record { answer = r .answer; planner = after; start = r .start; n = r .n }) is;
+      check-meets = check-meets-it;
+      lent-check-meets = check-meets-it;
+      find-meets = find-meets-it;
       others = other-calls-meet;
     }

@@ -7,7 +7,7 @@ use native.Mathlib.Omega.{arith}
 use lib.ListN.{length, getD, take, drop, set, length-append, length-drop, length-set}
 use lib.Seq.{take-suc, take-suc-set, take-length, take-all, length-take-le, drop-cons, set-at}
 use Rattle.packet_bytes.specs.Layout.{id-bytes}
-use Rattle.packet_bytes.specs.Parts.{largest-byte, ids-in}
+use Rattle.packet_bytes.specs.Parts.{most-read, ids-in}
 use Rattle.packet_bytes.specs.Facts.Layout.{length-id-bytes}
 
 -- the first six bytes of a list
@@ -98,11 +98,11 @@ pair-more (suc k) (a ∷ b ∷ rest) inside =
 
 -- The first k places hold the ids of the first k pairs.
 pub record AreTaken (part : List ℕ) (k : ℕ) (ids : List ℕ) : Type 0 where
-  pub size : length ids ≡ largest-byte
+  pub size : length ids ≡ most-read
   pub taken : take k ids ≡ ids-in (take (2 * k) part)
 
--- with the ids of the first k pairs in the first k places, that of the next pair put at place k, below 255, makes it k + 1
-pub one-more-pair : (part : List ℕ) (k : ℕ) (ids : List ℕ) (x : ℕ) → AreTaken part k ids → 2 * k + 1 < length part → k < largest-byte
+-- with the ids of the first k pairs in the first k places, that of the next pair put at place k, below 64, makes it k + 1
+pub one-more-pair : (part : List ℕ) (k : ℕ) (ids : List ℕ) (x : ℕ) → AreTaken part k ids → 2 * k + 1 < length part → k < most-read
     → x ≡ getD part (2 * k) 0 * 256 + getD part (2 * k + 1) 0 → AreTaken part (k + 1) (set ids k x)
 one-more-pair part k ids x are inside few is =
     record {

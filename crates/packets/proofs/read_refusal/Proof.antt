@@ -9,7 +9,7 @@ use Rattle.basics.specs.Facts.Decides.{failed, passed, same-as}
 use Rattle.packet_bytes.specs.Parts.{values-in}
 use Rattle.packets.specs.Good.{IsGood}
 use Rattle.packets.specs.Reading.{HasLength}
-use Rattle.packets.specs.Facts.Reading.{as-many-ids, values-read, answers-26, answers-27, answers-0}
+use Rattle.packets.specs.Facts.Reading.{as-many-ids, too-many-ids, values-read, answers-26, answers-27, answers-0}
 use Rattle.packets.proofs.read_refusal.Statement.{statement}
 use Rattle.packets.proofs.read_refusal.Tie as tie
 
@@ -36,6 +36,19 @@ returns-2 c =
     let packet = c .before .before .before .before .before .args .packet .now in
     let n-is = sym (c .before .wide .ensures .0) in
     answers-26 packet (λ long. c .if2 .taken (long .1 ∙ ap (λ (n : ℕ). 6 + 2 * n) n-is))
+
+-- where the length is right: the bytes, which are as many as byte 5 says
+abbrev bytes : tie.Else2 → List ℕ
+bytes c = c .before .before .before .before .before .args .packet .now
+
+long : (c : tie.Else2) → HasLength (bytes c)
+long c = (c .before .before .before .if1 .left, c .if2 .left ∙ ap (λ (n : ℕ). 6 + 2 * n) (c .before .wide .ensures .0))
+
+cast-if3 : tie.Need-cast-if3
+cast-if3 c = search needs
+
+returns-3 : tie.Need-returns-3
+returns-3 c = answers-27 (bytes (c .before)) (long (c .before)) (too-many-ids (bytes (c .before)) _ (c .before .if2 .left) (c .if3 .taken))
 
 sub-ids-of-pairs : tie.Need-sub-ids-of-pairs
 sub-ids-of-pairs c = search needs
@@ -64,36 +77,33 @@ array-share-prefix-ids c = search needs
 slice-aggregate-are-good : tie.Need-slice-aggregate-are-good
 slice-aggregate-are-good c =
     let pairs = c .before .before .before .before in
-    let measured = pairs .before .before in
-    let packet = measured .before .before .before .before .before .args .packet .now in
-    as-many-ids packet (measured .before .wide .result) _ (measured .if2 .left) (pairs .ids-of-pairs .ensures)
+    let measured = pairs .before .before .before in
+    as-many-ids (bytes measured) (measured .before .wide .result) _ (measured .if2 .left) (pairs .ids-of-pairs .ensures)
 
 are-good-requires : tie.Need-are-good-requires
 are-good-requires c κs = search needs
 
--- where the values are tested: the bytes, whose length is right, and which hold those values
-abbrev bytes : tie.After-are-good → List ℕ
-bytes c = c .before .before .before .before .before .before .before .before .before .before .before .before .args .packet .now
+-- where the values are tested the length is right, and those values are in the bytes
+abbrev measured : tie.After-are-good → tie.Else2
+measured c = c .before .before .before .before .before .before .before .before
 
-long : (c : tie.After-are-good) → HasLength (bytes c)
-long c =
-    let measured = c .before .before .before .before .before .before .before in
-    (measured .before .before .before .if1 .left, measured .if2 .left ∙ ap (λ (n : ℕ). 6 + 2 * n) (measured .before .wide .ensures .0))
-
-good-if : (c : tie.After-are-good) → Decides (c .are-good .result) (IsGood (values-in (bytes c)))
+good-if : (c : tie.After-are-good) → Decides (c .are-good .result) (IsGood (values-in (bytes (measured c))))
 good-if c =
     let start = c .before .before .before .before .start-of-header .ensures in
     let ids = c .before .before .before .before .before .ids-of-pairs .ensures in
-    let same = values-read (bytes c) start (c .before .before .wide2 .ensures .0) ids in
+    let same = values-read (bytes (measured c)) start (c .before .before .wide2 .ensures .0) ids in
     same-as (subst IsGood same) (subst⁻¹ IsGood same) (c .are-good .ensures)
-
-returns-3 : tie.Need-returns-3
-returns-3 c = answers-27 (bytes (c .before)) (long (c .before)) (failed (good-if (c .before)) (c .if3 .taken))
 
 returns-4 : tie.Need-returns-4
 returns-4 c =
-    let known = c .before .before .before .before .before .before .before .before .before .before .before .before .shared-slice-known .given in
-    answers-0 (bytes (c .before)) (λ i. omega (arith, known i)) (long (c .before)) (passed (good-if (c .before)) (c .if3 .left))
+    let at = measured (c .before) in
+    answers-27 (bytes at) (long at) (failed (good-if (c .before)) (c .if4 .taken))
+
+returns-5 : tie.Need-returns-5
+returns-5 c =
+    let at = measured (c .before) in
+    let known = at .before .before .before .before .shared-slice-known .given in
+    answers-0 (bytes at) (λ i. omega (arith, known i)) (long at) (passed (good-if (c .before)) (c .if4 .left))
 
 pub read-refusal-spec : {M : Type 1} → statement M
 read-refusal-spec =
@@ -106,6 +116,8 @@ read-refusal-spec =
     mul-if2
     add-if2
     returns-2
+    cast-if3
+    returns-3
     sub-ids-of-pairs
     part-ids-of-pairs-start
     part-ids-of-pairs-end
@@ -116,5 +128,5 @@ read-refusal-spec =
     array-share-prefix-ids
     slice-aggregate-are-good
     are-good-requires
-    returns-3
-    returns-4)
+    returns-4
+    returns-5)

@@ -2,12 +2,13 @@
 use mathlib.Core.Path.{_≡_, sym, ap, subst⁻¹, _∙_}
 use mathlib.Core.Logic.{if-pos, if-neg}
 use mathlib.Core.List.{List, [], _∷_}
-use Prim.Native.Nat.{ℕ, _+_, _-_, _*_, _≤_}
+use Prim.Native.Nat.{ℕ, _+_, _-_, _*_, _≤_, _<_}
 use native.Mathlib.Decide.{ℕ-discrete}
 use native.Mathlib.Nat.{lt-irrefl}
 use native.Mathlib.Omega.{arith}
 use lib.ListN.{length, getD, take, drop, length-drop}
 use lib.Seq.{take-all}
+use Rattle.basics.specs.Limits.{most-slots}
 use Rattle.basics.specs.Refusals.{answer-of}
 use Rattle.basics.specs.Facts.Refusals.{answer-first, answer-later, answer-zero}
 use Rattle.packet_bytes.specs.Layout.{Values}
@@ -26,6 +27,12 @@ pub as-many-ids : (p : List ℕ) (n : ℕ) (ids : List ℕ) → length p ≡ 6 +
 as-many-ids p n ids long is =
     let pairs : length (drop 6 p) ≡ 2 * n = simp length-drop (omega arith) in
     sym (ap (length {A = ℕ}) (is ∙ ap ids-in (rest-taken p)) ∙ length-ids-in n (drop 6 p) pairs)
+
+-- bytes as long as n says, with n above the largest B, hold no good values
+pub too-many-ids : (p : List ℕ) (n : ℕ) → length p ≡ 6 + 2 * n → most-slots < n → IsGood (values-in p) → ⊥
+too-many-ids p n long many good =
+    let pairs : length (drop 6 p) ≡ 2 * n = simp length-drop (omega arith) in
+    lt-irrefl n (omega (arith, many, length-ids-in n (drop 6 p) pairs, good .count, good .slots .1))
 
 -- what the tests look at are the values in the bytes
 pub values-read : {start slots : ℕ} {ids : List ℕ} (p : List ℕ) → start ≡ start-in p → slots ≡ getD p 4 0 → ids ≡ ids-in (take (length p - 6) (drop 6 p))

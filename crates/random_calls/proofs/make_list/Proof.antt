@@ -22,14 +22,8 @@ loop-holds c = search needs
 six-after-requires : tie.Need-six-after-requires Inv-loop μ-loop
 six-after-requires c κs = search needs
 
-call-requires : tie.Need-call-requires Inv-loop μ-loop
-call-requires c κs = search needs
-
-make-requires : tie.Need-make-requires Inv-loop μ-loop
-make-requires c κs = search needs
-
-after-requires : tie.Need-after-requires Inv-loop μ-loop
-after-requires c κs = search needs
+step-requires : tie.Need-step-requires Inv-loop μ-loop
+step-requires c κs = search needs
 
 sub-left : tie.Need-sub-left Inv-loop μ-loop
 sub-left c = search needs
@@ -53,9 +47,7 @@ make-list-spec =
     nothing-requires
     loop-holds
     six-after-requires
-    call-requires
-    make-requires
-    after-requires
+    step-requires
     sub-left
     loop-less
     loop-again

@@ -5,6 +5,7 @@ use crate::line::put;
 use crate::line::put_number;
 use checker::Finding;
 use planner::Planner;
+use round_tests::packet_length;
 
 // A count and its unit, as in `1 round` and `2 rounds`.
 fn put_count(line: &mut [u8], at: usize, count: u64, unit: &[u8]) -> usize {
@@ -35,30 +36,10 @@ fn number_of(high: u8, low: u8) -> u64 {
     high as u64 * 256 + low as u64
 }
 
-fn doubled(n: u8) -> usize
-    ensures { λ r. ⌜ r ≤ 510 ⌝ }
-{
-    2 * (n as usize)
-}
-
-// The length of the packet in front, 0 if it is cut short.
-fn length_in_front(rest: &[u8]) -> usize
-    ensures { λ r. ⌜ r ≤ length (now (rest .entry)) ⌝ }
-{
-    if rest.len() < 6 {
-        return 0;
-    }
-    let whole = 6 + doubled(rest[5]);
-    if rest.len() < whole {
-        return 0;
-    }
-    whole
-}
-
 // What stands in a round: the start and the numbers of the packet in front of `rest`; of a packet cut short, how many bytes are left.
 fn put_round(line: &mut [u8], at: usize, rest: &[u8]) -> usize {
-    let whole = length_in_front(rest);
-    if whole < 6 {
+    let whole = packet_length(rest);
+    if whole == 0 {
         let end = put_count(line, at, rest.len() as u64, b" byte");
         return put(line, end, b" left");
     }

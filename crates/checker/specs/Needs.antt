@@ -32,6 +32,7 @@ pub record Columns : Type 0 where
   pub periods : List ℕ
   pub deadlines : List ℕ
 
+-- The three by their names.
 abbrev pub columns : List ℕ → List ℕ → List ℕ → Columns
 columns ids periods deadlines = record { ids = ids; periods = periods; deadlines = deadlines }
 
@@ -92,6 +93,7 @@ pub record IsSentAll (c : Columns) (after ids : List ℕ) (start : ℕ) (r : Boo
   pub sent : r ≡ true → MaySend rs ids start × Shown (map (sent-for ids) rs) c after
   pub refused : r ≡ false → MaySend rs ids start → ⊥
 
+-- So it is of whichever records the columns show.
 abbrev pub SendsAll : Columns → List ℕ → List ℕ → List ℕ → ℕ → Bool → Type 0
 SendsAll c before after ids start r = OfShown c before (IsSentAll c after ids start r)
 
@@ -105,6 +107,7 @@ pub data IsServed (c : Columns) (after ids : List ℕ) (start : ℕ) (rs : List 
   not-all : (MaySend rs ids start → ⊥) → IsServed c after ids start rs 4
   left-over : MaySend rs ids start → (NoneDue (start + 1) (map (sent-for ids) rs) → ⊥) → IsServed c after ids start rs 5
 
+-- So it is of whichever records the columns show.
 abbrev pub Serves : Columns → List ℕ → List ℕ → List ℕ → ℕ → ℕ → Type 0
 Serves c before after ids start r = OfShown c before (λ rs. IsServed c after ids start rs r)
 

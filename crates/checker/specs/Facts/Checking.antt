@@ -185,6 +185,7 @@ module _ {p : Planner} {plan : List ℕ} {c : Columns} {dues : List ℕ} {count 
         let long = ap (length {A = ℕ}) (is .are) ∙ length-append (bytes-of (is .round)) (drop (r .length) (drop at plan)) in
         omega (arith, long, length-drop at plan, is .long, so-far .within)
 
+    -- .. and it has a byte at least
     pub front-some : 1 ≤ r .length
     front-some = omega (arith, is .long, length-bytes (is .round))
 

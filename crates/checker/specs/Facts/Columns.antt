@@ -78,6 +78,7 @@ module _ (rs : List Record) (row : ℕ) (low : row < length rs) where
           getD-set-other dues row k x 0 other ∙ shown .times k below ∙ sym (ap due-of (getD-set-other rs row k (sent (row-at rs row)) no-record other))
 
 module _ {rs : List Record} {c : Columns} {dues : List ℕ} (shown : Shown rs c dues) (regular : Regular rs) where
+  -- the ids rise over all 64 places, so that they can be searched by halving
   pub columns-rise : Rises (c .ids)
   columns-rise = ids-rise (as-table rs) (can-search (shown .few) regular) (omega arith) (shown .ids)
 
@@ -87,6 +88,7 @@ module _ {rs : List Record} {c : Columns} {dues : List ℕ} (shown : Shown rs c 
       let found = id-row (as-table rs) (can-search (shown .few) regular) (omega arith) (shown .ids) id row (subst⁻¹ (HasId id) (all-in rs) held) place in
       other (shown .ids .ids row (found .0) ∙ found .1)
 
+  -- so the id may not be sent
   pub id-refused : {id row start : ℕ} {after : List ℕ} → IsRowOf (c .ids) id row → (getD (c .ids) row 0 ≡ id → ⊥) → IsSentOne c after id start false rs
   id-refused row other = record { sent = λ e. absurd (false≢true e); refused = λ _ may. not-there (row .place other) other (may .held) }
 
@@ -150,6 +152,7 @@ module _ {rs : List Record} {c : Columns} {dues : List ℕ} (shown : Shown rs c 
       subst (NoneDue end) (all-in rs)
       (all-records (λ r. end < due-of r) (λ r. le-prop) (as-table rs) (λ k below. omega (arith, none k below, shown .times k below)))
 
+  -- .. the other way round
   pub none-by : {end : ℕ} → NoneDue end rs → NoneBy (length rs) dues end
   none-by none k below = omega (arith, none (row-at rs k) (row-mem rs k below), shown .times k below)
 
@@ -160,6 +163,7 @@ no-more {rs} {qs} {c} shown also regular less =
     lt-irrefl 0
     (omega (arith, shown .ids .free (length rs) (omega arith) (omega (arith, also .few)), here, regular .ids _ (row-mem qs (length rs) less)))
 
+-- so two lists of records that the columns show are as long
 pub same-count : {rs qs : List Record} {c : Columns} {dues times : List ℕ} → Shown rs c dues → Regular rs → Shown qs c times → Regular qs
     → length rs ≡ length qs
 same-count {rs} {qs} shown regular also likewise = go (decLt (length rs) (length qs)) (decLt (length qs) (length rs))

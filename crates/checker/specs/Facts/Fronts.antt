@@ -130,6 +130,7 @@ module _ {rest : List ℕ} {n : ℕ} (whole : Whole rest n) where
         breaks-first of-packet (λ keeps. lt-irrefl 0 (omega (arith, many, as-many, keeps .0 .count, keeps .1)))
         (kept-before 1 (not-asked (omega arith)) (not-asked (omega arith)) (not-asked (omega arith)) (not-asked (omega arith)) (omega arith))
 
+    -- the rule that the tests of the header name is the first that the round breaks
     pub header-breaks : {r : ℕ} → IsHeaderRule h round r → (r ≡ 0 → ⊥) → BreaksRule h rest r
     header-breaks (three-kept _ _ _) some = absurd (some refl)
     header-breaks (not-packet not) some =
@@ -151,6 +152,7 @@ module _ {rest : List ℕ} {n : ℕ} (whole : Whole rest n) where
           (λ q m. ∥∥₁-elim (exists-of-mem-map {f = sent-for ids} {l = h .table} m) le-prop
           (λ found. subst (λ (r : Record). round .start + 1 < due-of r) (found .2) (keeps (found .0) (found .1))))
 
+      -- the rule that the tests of the slots name is the first that it breaks ..
       pub slots-break : {c : Columns} {after : List ℕ} {r : ℕ} → IsServed c after ids (round .start) (h .table) r → (r ≡ 0 → ⊥) → BreaksRule h rest r
       slots-break (all _ _ _) some = absurd (some refl)
       slots-break (not-all not) some =
@@ -158,6 +160,7 @@ module _ {rest : List ℕ} {n : ℕ} (whole : Whole rest n) where
       slots-break (left-over may not) some =
           breaks-first of-rest (left-over-breaks not) (kept-before 5 (λ _. packet) (λ _. start) (λ _. room) (λ _. may) (omega arith))
 
+      -- .. and where they name none it passes
       pub round-passes : {c : Columns} {after : List ℕ} {r s : ℕ} → IsServed c after ids (round .start) (h .table) r → r ≡ 0 → s ≡ round .start
           → IsCheckedFrom h rest c after (record { rule = 0; length = n; start = s })
       round-passes (all may none shown) zero same = record {

@@ -21,19 +21,19 @@ use Rattle.checker.specs.Plans.{sent-for, MaySend}
 use Rattle.checker.specs.Needs.{Regular, MaySendOne, RidesNow}
 
 -- an id in front counts once more for itself, and not for another
-pub times-hit : {id x : ℕ} (ids : List ℕ) → x ≡ id → times-in id (x ∷ ids) ≡ suc (times-in id ids)
+times-hit : {id x : ℕ} (ids : List ℕ) → x ≡ id → times-in id (x ∷ ids) ≡ suc (times-in id ids)
 unfolding times-in
 times-hit {id} {x} ids same =
     let rest = filter (λ (y : ℕ). ℕ-discrete y id) ids in
     ap (length {A = ℕ}) (if-pos (ℕ-discrete x id) same (x ∷ rest) rest)
 
-pub times-miss : {id x : ℕ} (ids : List ℕ) → (x ≡ id → ⊥) → times-in id (x ∷ ids) ≡ times-in id ids
+times-miss : {id x : ℕ} (ids : List ℕ) → (x ≡ id → ⊥) → times-in id (x ∷ ids) ≡ times-in id ids
 unfolding times-in
 times-miss {id} {x} ids other =
     let rest = filter (λ (y : ℕ). ℕ-discrete y id) ids in
     ap (length {A = ℕ}) (if-neg (ℕ-discrete x id) other (x ∷ rest) rest)
 
-pub times-none : (id : ℕ) → times-in id [] ≡ 0
+times-none : (id : ℕ) → times-in id [] ≡ 0
 unfolding times-in
 times-none id = refl
 
@@ -42,7 +42,7 @@ same-changes : {A : Type 0} (f g : Record → A) (rs : List Record) → ((r : Re
 same-changes f g rs same = map-congr-left {l = rs} (λ r m. same r)
 
 -- sending nothing leaves a record as it is
-pub sent-none : (rs : List Record) → map (sent-for []) rs ≡ rs
+sent-none : (rs : List Record) → map (sent-for []) rs ≡ rs
 sent-none rs = same-changes (sent-for []) (λ r. r) rs go ∙ map-id rs
   where
     go : (r : Record) → sent-for [] r ≡ r
@@ -69,14 +69,14 @@ sent-first x ids rs =
     same-changes (sent-for (x ∷ ids)) (λ r. sent-for ids (stepped x r)) rs (sent-step x ids) ∙ sym (map-map (sent-for ids) (stepped x) rs)
 
 -- serving keeps ids and periods
-pub stepped-id : (x : ℕ) (r : Record) → stepped x r .id ≡ r .id
+stepped-id : (x : ℕ) (r : Record) → stepped x r .id ≡ r .id
 stepped-id x r = go (ℕ-discrete (r .id) x)
   where
     go : (d : Dec (r .id ≡ x)) → ite d (sent r) r .id ≡ r .id
     go (yes _) = refl
     go (no _) = refl
 
-pub stepped-period : (x : ℕ) (r : Record) → stepped x r .period ≡ r .period
+stepped-period : (x : ℕ) (r : Record) → stepped x r .period ≡ r .period
 stepped-period x r = go (ℕ-discrete (r .id) x)
   where
     go : (d : Dec (r .id ≡ x)) → ite d (sent r) r .period ≡ r .period
@@ -88,7 +88,7 @@ unfolding serve
 served-ids x rs = map-map (λ (r : Record). r .id) (stepped x) rs
     ∙ same-changes (λ (r : Record). stepped x r .id) (λ (r : Record). r .id) rs (stepped-id x)
 
-pub stepped-deadline : (x : ℕ) (r : Record) → stepped x r .deadline ≡ r .deadline
+stepped-deadline : (x : ℕ) (r : Record) → stepped x r .deadline ≡ r .deadline
 stepped-deadline x r = go (ℕ-discrete (r .id) x)
   where
     go : (d : Dec (r .id ≡ x)) → ite d (sent r) r .deadline ≡ r .deadline
@@ -110,10 +110,11 @@ module _ (f : Record → Record) (ids : (r : Record) → f r .id ≡ r .id) (per
     deadlines = each rs (λ r. r .deadline ≤ longest-period) (λ r. le-prop) (λ r m. omega (arith, deadlines r, regular .deadlines r m));
   }
 
-pub served-regular : (x : ℕ) (rs : List Record) → Regular rs → Regular (serve x rs)
+served-regular : (x : ℕ) (rs : List Record) → Regular rs → Regular (serve x rs)
 unfolding serve
 served-regular x rs regular = mapped-regular (stepped x) (stepped-id x) (stepped-period x) (stepped-deadline x) rs regular
 
+-- records stay regular where any ids are sent
 pub sent-regular : (ids : List ℕ) (rs : List Record) → Regular rs → Regular (map (sent-for ids) rs)
 sent-regular ids rs regular = mapped-regular (sent-for ids) (λ r. refl) (λ r. refl) (λ r. refl) rs regular
 
@@ -136,13 +137,13 @@ module _ (x : ℕ) (ids : List ℕ) (start : ℕ) where
   rides-back r now (no other) later m low = later m (omega (arith, times-miss ids (λ e. other (sym e))))
 
   module _ (rs : List Record) where
-    pub first-may : MaySend rs (x ∷ ids) start → MaySendOne rs x start
+    first-may : MaySend rs (x ∷ ids) start → MaySendOne rs x start
     first-may may = record {
       held = may .held x mem-cons-self;
       ride = λ r m same. let here = may .ride r m 0 (omega (arith, times-hit ids (sym same))) in omega (arith, here);
     }
 
-    pub rest-may : MaySend rs (x ∷ ids) start → MaySend (serve x rs) ids start
+    rest-may : MaySend rs (x ∷ ids) start → MaySend (serve x rs) ids start
     unfolding serve
     rest-may may = record {
       held = λ id m. subst⁻¹ (λ (l : List ℕ). List·Mem id l) (served-ids x rs) (may .held id (mem-cons-of-mem x m));
@@ -150,7 +151,7 @@ module _ (x : ℕ) (ids : List ℕ) (start : ℕ) where
           (λ found. subst (Rides start ids) (found .2) (rides-on (found .0) (may .ride (found .0) (found .1)) (ℕ-discrete (found .0 .id) x)) k low);
     }
 
-    pub both-may : MaySendOne rs x start → MaySend (serve x rs) ids start → MaySend rs (x ∷ ids) start
+    both-may : MaySendOne rs x start → MaySend (serve x rs) ids start → MaySend rs (x ∷ ids) start
     unfolding serve
     both-may one rest = record {
       held = λ id m. ∥∥₁-elim (mem-cons .0 m) ∥∥₁-prop
@@ -167,10 +168,12 @@ pub record Sending (rs : List Record) (ids : List ℕ) (start : ℕ) (cur : List
   pub regular : Regular cur
 
 module _ {rs : List Record} {ids : List ℕ} {start : ℕ} where
+  -- at first none has been sent
   pub none-sent : Regular rs → Sending rs ids start rs ids
   none-sent regular = record { on = λ may. may; back = λ may. may; same = refl; regular = regular }
 
   module _ {cur : List Record} {x : ℕ} {rest : List ℕ} (so-far : Sending rs ids start cur (x ∷ rest)) where
+    -- one that may be sent is ..
     pub one-more-sent : MaySendOne cur x start → Sending rs ids start (serve x cur) rest
     one-more-sent one = record {
       on = λ may. rest-may x rest start cur (so-far .on may);
@@ -179,9 +182,11 @@ module _ {rs : List Record} {ids : List ℕ} {start : ℕ} where
       regular = served-regular x cur (so-far .regular);
     }
 
+    -- .. and one that may not stops all
     pub one-stops : (MaySendOne cur x start → ⊥) → MaySend rs ids start → ⊥
     one-stops not may = not (first-may x rest start cur (so-far .on may))
 
+  -- with none left all may be sent, and these are what they leave
   pub all-sent : {cur : List Record} → Sending rs ids start cur [] → MaySend rs ids start × (map (sent-for ids) rs ≡ cur)
   all-sent {cur} so-far = (
     so-far .back (record { held = λ id m. absurd (not-mem-nil m); ride = λ r m k low. absurd (lt-irrefl 0 (omega (arith, times-none (r .id)))) }),

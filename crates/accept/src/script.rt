@@ -5,7 +5,7 @@ use command::line_end_in_range;
 use planner::Planner;
 
 // Whether every line was done, and the planner then.
-#[derive(Drop)]
+#[derive(Clone, Copy)]
 pub struct Built {
     pub good: bool,
     pub planner: Planner,

@@ -1,5 +1,7 @@
 // Notions that several crates share: deciding, refusals in order, lists in order, an order by three numbers, a number's place among 64 that rise,
 // an id that stands at no earlier place among 64, a number in more bits, and the version.
+#![tactic(auto)]
+
 ghost use Rattle.std.specs.Prelude.{◌≡◌, ◌+◌, ◌≤◌, ◌<◌};
 ghost use Rattle.basics.specs.Decides.{Decides};
 ghost use Rattle.basics.specs.Lexicographic.{Then};

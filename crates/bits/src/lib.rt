@@ -1,4 +1,6 @@
 // Sets of small numbers as binary digits: of the numbers 0 to 63 in one number of 64 bits, of 0 to 1,023 in 16 of them.
+#![tactic(auto)]
+
 ghost use Rattle.std.specs.Prelude.{◌≡◌, ◌<◌, length};
 ghost use Rattle.basics.specs.Decides.{Decides};
 ghost use Rattle.bits.specs.Bits.{In, IsWith, InWords, IsWordsWith};

@@ -19,7 +19,7 @@ pub mod line;
 mod memory;
 
 // A call, with its numbers in the order of its line.
-#[derive(Drop)]
+#[derive(Clone, Copy)]
 pub enum Call {
     Open(u32, u32, u32, u32, u32),
     Add(u32, u32, u32, u32),
@@ -29,7 +29,7 @@ pub enum Call {
 }
 
 // What a call answered, a round's start, 0 of any other call, and the planner after it.
-#[derive(Drop)]
+#[derive(Clone, Copy)]
 pub struct Answered {
     pub answer: u32,
     pub start: u32,

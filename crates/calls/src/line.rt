@@ -2,7 +2,7 @@
 // is passed over.
 
 // The first byte, 0 if there is none yet; how many commas and blanks stood behind it; and the numbers, of which the first is at 1.
-#[derive(Drop)]
+#[derive(Clone, Copy)]
 pub struct Line {
     pub letter: u8,
     pub at: usize,

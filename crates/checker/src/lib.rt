@@ -12,14 +12,14 @@ mod sending;
 
 // Annex 14.12: 0 and 0 of a sound plan; 0 and the number, from 1, of the first round that breaks a rule; 5 and 0 if the planner is not sound.
 #[repr(C)]
-#[derive(Drop)]
+#[derive(Clone, Copy)]
 pub struct Verdict {
     pub answer: u32,
     pub round: u32,
 }
 
 // Annex 14.13: how many rounds pass and how many bytes they have, and the number of the rule that the next one breaks, 0 if there is none.
-#[derive(Drop)]
+#[derive(Clone, Copy)]
 pub struct Finding {
     pub answer: u32,
     pub passed: u32,

@@ -10,7 +10,7 @@ use round_tests::{packet_length, start_fits, stream_count};
 use state::Setting;
 
 // The first rule that a round breaks; or 0, how long its packet is, and its start.
-#[derive(Drop)]
+#[derive(Clone, Copy)]
 pub struct Checked {
     pub rule: u32,
     pub length: usize,

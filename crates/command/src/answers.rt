@@ -11,7 +11,7 @@ use super::print::Lines;
 use planner::{Planner, Rounded};
 
 // The planner after a command, and the lines to be written.
-#[derive(Drop)]
+#[derive(Clone, Copy)]
 pub struct Answered {
     pub planner: Planner,
     pub lines: Lines,

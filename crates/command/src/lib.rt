@@ -13,7 +13,7 @@ mod script;
 mod step;
 
 // What a line says.
-#[derive(Drop)]
+#[derive(Clone, Copy)]
 pub enum Command {
     Open(u32, u32, u32, u32),
     Add(u32, u32, u32, u32),

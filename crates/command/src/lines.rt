@@ -8,7 +8,7 @@ use super::step::step_in_range;
 use planner::Planner;
 
 // What has been reached: the planner, how many lines there were, the place in the input, and the place after what was written.
-#[derive(Drop)]
+#[derive(Clone, Copy)]
 pub struct Reached {
     pub planner: Planner,
     pub number: u64,

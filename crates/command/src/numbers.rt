@@ -3,7 +3,7 @@ ghost use Rattle.std.specs.Prelude.{◌≤◌, length};
 ghost use Rattle.command.specs.Reads.{IsDigitAt, IsReadNumber};
 
 // A number's value, and how many bytes it takes; Bad if there is none that fits 32 bits.
-#[derive(Drop)]
+#[derive(Clone, Copy)]
 pub enum Number {
     Value(u32, usize),
     Bad,

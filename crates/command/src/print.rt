@@ -7,7 +7,7 @@ ghost use Rattle.command.specs.Puts.{IsPut, IsLine, AreLines, lines_of, AreFew, 
 pub const ROOM: usize = 1430;
 
 // The lines of an answer: one, of a letter and the first `count` values.
-#[derive(Drop)]
+#[derive(Clone, Copy)]
 pub struct Lines {
     pub letter: u8,
     pub values: [u64; 68],

@@ -7,7 +7,7 @@ use crate::Command;
 use crate::numbers::{Number, read_number};
 
 // The numbers of a line's fields: the first `count` values, if the fields are good and no more than four.
-#[derive(Drop)]
+#[derive(Clone, Copy)]
 struct Fields {
     good: bool,
     count: usize,

@@ -9,7 +9,7 @@ use super::reading::parse;
 use planner::Planner;
 
 // The planner after a line, and the place after what was written.
-#[derive(Drop)]
+#[derive(Clone, Copy)]
 pub struct Step {
     pub planner: Planner,
     pub end: usize,

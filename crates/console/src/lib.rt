@@ -9,14 +9,14 @@ use command::{ROOM, Reached};
 mod system;
 
 // What has been reached in the input at hand, and how many bytes of it there are.
-#[derive(Drop)]
+#[derive(Clone, Copy)]
 pub struct Session {
     pub reached: Reached,
     pub have: usize,
 }
 
 // A turn: how many bytes of the output were handed over, how many were read, whether to go on, and whether the input has ended.
-#[derive(Drop)]
+#[derive(Clone, Copy)]
 pub struct Turn {
     pub session: Session,
     pub wrote: usize,

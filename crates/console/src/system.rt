@@ -4,7 +4,7 @@ ghost use Rattle.libc.specs.Io.{Moved};
 ghost use Rattle.console.specs.Needs.{IsDelivery};
 
 // How many bytes were read, and whether the input has ended. A read that failed delivers none and ends nothing.
-#[derive(Drop)]
+#[derive(Clone, Copy)]
 pub struct Delivery {
     pub count: usize,
     pub ended: bool,

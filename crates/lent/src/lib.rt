@@ -12,7 +12,7 @@ use planner::Planner;
 
 // What a round answers beside the planner: its start and the count of numbers written, both 0 if refused.
 #[repr(C)]
-#[derive(Drop)]
+#[derive(Clone, Copy)]
 pub struct Held {
     pub answer: u32,
     pub start: u32,

@@ -10,4 +10,4 @@ use Rattle.messages.specs.declared.Waiting.{Waiting}
 use Rattle.messages.specs.contracts.Waiting.{the_type}
 
 pub numbers_shape : (w : Waiting) (vs : List Val) → Is (row the_type) w vs → length w.numbers ≡ most_waiting
-numbers_shape w vs is = let fields = is.1.1 in sym (length-map w.numbers (λ v. v)) ∙ fields.1.0.1.0.1
+numbers_shape w vs is = is.1.1.1.0.1.0.1

@@ -1,4 +1,6 @@
 // Short messages that wait for a free slot, first come first out: at most 32 numbers in the first `count` places.
+#![tactic(auto)]
+
 ghost use Rattle.std.specs.Prelude.{◌≡◌, [], ◌∷◌, ◌++◌, ◌+◌, ◌≤◌, ◌<◌, min, take, drop};
 ghost use Rattle.basics.specs.Decides.{Decides};
 ghost use Rattle.basics.specs.Limits.{most_slots, most_waiting};
@@ -9,7 +11,7 @@ use basics::{LARGEST_MESSAGE, LEAST_MESSAGE, MOST_WAITING, wide};
 
 // The numbers that wait stand in the first `count` places, in the order in which they were sent.
 #[repr(C)]
-#[derive(Drop)]
+#[derive(Clone, Copy)]
 pub struct Waiting {
     pub count: u32,
     pub numbers: [u16; 32],
@@ -116,7 +118,7 @@ fn fitting(free: usize, waiting: usize) -> usize
 }
 
 // What a round lists, in the first n places, and the messages that it leaves waiting.
-#[derive(Drop)]
+#[derive(Clone, Copy)]
 pub struct Listed {
     pub numbers: [u16; 64],
     pub n: usize,

@@ -1,4 +1,6 @@
 // The bytes of a packet, stored and taken apart. What is good is not asked here.
+#![tactic(auto)]
+
 ghost use Rattle.std.specs.Prelude.{◌≡◌, ◌++◌, ◌+◌, ◌*◌, ◌≤◌, length, take, drop};
 ghost use Rattle.packet_bytes.specs.Layout.{header_bytes, id_bytes};
 ghost use Rattle.packet_bytes.specs.Parts.{largest_byte, most_read, start_in, ids_in};

@@ -1,4 +1,6 @@
 // The schedule as it goes on air: the writer and the reader of a packet. Nothing here knows of a planner.
+#![tactic(auto)]
+
 ghost use Rattle.std.specs.Prelude.{◌≡◌, length};
 ghost use Rattle.basics.specs.Decides.{Decides};
 ghost use Rattle.basics.specs.Refusals.{answer_of};
@@ -16,7 +18,7 @@ mod numbers;
 
 // What a reader gives: the start, B and n; or the number of a refusal and zeros.
 #[repr(C)]
-#[derive(Drop)]
+#[derive(Clone, Copy)]
 pub struct Header {
     pub answer: u32,
     pub start: u32,

@@ -17,7 +17,7 @@ mod sending;
 mod slots;
 
 // What add is passed: a stream's id, the start S of its first packet, P and D.
-#[derive(Drop)]
+#[derive(Clone, Copy)]
 pub struct Offer {
     pub id: u32,
     pub start: u32,
@@ -26,7 +26,7 @@ pub struct Offer {
 }
 
 // What a round answers: its start and the count of numbers written, both 0 if refused, and the planner after it.
-#[derive(Drop)]
+#[derive(Clone, Copy)]
 pub struct Rounded {
     pub answer: u32,
     pub planner: Planner,

@@ -95,7 +95,7 @@ fn rule_refusal_sound(p: Planner, offer: Offer, table: Table) -> u32
 }
 
 // What add answers, and the table that the two rules were tested on, if it came to that.
-#[derive(Drop)]
+#[derive(Clone, Copy)]
 struct Tested {
     pub answer: u32,
     pub table: Table,

@@ -13,7 +13,7 @@ use state::Planner;
 use table::{Record, Table};
 
 // The ids chosen for a round, in the first n places, beside each its place in the queue, and its stream's row in the table.
-#[derive(Drop)]
+#[derive(Clone, Copy)]
 pub struct Chosen {
     pub placed: Placed,
     pub rows: [usize; 64],

@@ -49,7 +49,7 @@ module _ (q : Queue) where
   zero_sound : (rs : List Refusal) → answer_of (unsound q ∷ rs) ≡ 0 → Sound q × (answer_of rs ≡ 0)
   zero_sound rs zero =
       let w = answer_zero (unsound q) rs (λ e. not_zero 5 (omega arith) e) zero in
-      ((Dec.not_not (decide_sound q)).0 w.0, w.1)
+      ((Dec.not-not (decide_sound q)).0 w.0, w.1)
 
   module _ (sound : Sound q) (id : ℕ) where
     -- with a sound queue and an id that is not filed the answer is 24, whatever refusals follow
@@ -62,10 +62,10 @@ module _ (q : Queue) where
   zero_filed : (id : ℕ) (rs : List Refusal) → answer_of (not_filed id (entries q) ∷ rs) ≡ 0 → Filed id (entries q) × (answer_of rs ≡ 0)
   zero_filed id rs zero =
       let w = answer_zero (not_filed id (entries q)) rs (λ e. not_zero 24 (omega arith) e) zero in
-      ((Dec.not_not (decide_filed id (entries q))).0 w.0, w.1)
+      ((Dec.not-not (decide_filed id (entries q))).0 w.0, w.1)
 
 last_23 : (es : List Entry) → answer_of (out_of_bounds es ∷ []) ≡ 0 → InBounds es
-last_23 es zero = (Dec.not_not (decide_in_bounds es)).0 (answer_zero (out_of_bounds es) [] (λ e. not_zero 23 (omega arith) e) zero).0
+last_23 es zero = (Dec.not-not (decide_in_bounds es)).0 (answer_zero (out_of_bounds es) [] (λ e. not_zero 23 (omega arith) e) zero).0
 
 refuses_23 : (es : List Entry) → (InBounds es → ⊥) → 23 ≡ answer_of (out_of_bounds es ∷ [])
 refuses_23 es out = sym (answer_first (out_of_bounds es) [] out)
@@ -154,7 +154,7 @@ module _ (q : Queue) (id key release : ℕ) where
   insert_can zero =
       let s = zero_sound q (bad_id id ∷ from_21) zero in
       let r = answer_zero (bad_id id) from_21 (λ e. not_zero 6 (omega arith) e) s.1 in
-      let range = (Dec.not_not (decide_one_to largest_id id)).0 r.0 in
+      let range = (Dec.not-not (decide_one_to largest_id id)).0 r.0 in
       let f = answer_zero (full (entries q)) from_22 (λ e. not_zero 21 (omega arith) e) r.1 in
       let n = answer_zero (filed id (entries q)) from_23 (λ e. not_zero 22 (omega arith) e) f.1 in
       record {

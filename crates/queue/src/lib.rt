@@ -1,6 +1,8 @@
 // The deadline queue: ids filed under keys, each with a release, in 480 circular buckets by key modulo 480. A bucket is a doubly linked list
 // ordered by release, then id.
 // Every call here tests the queue it is handed. A layer that knows its queue to be sound calls the forms whose names end in _sound.
+#![tactic(auto)]
+
 ghost use Rattle.std.specs.Prelude.{◌≡◌};
 ghost use Rattle.basics.specs.Refusals.{answer_of};
 ghost use Rattle.places.specs.Order.{triple};
@@ -27,7 +29,7 @@ mod soundness;
 
 // Places 0 to 63 hold entries, id 0 where a place is free; node 64 + b is the head of bucket b. `next` and `prev` link the nodes.
 #[repr(C)]
-#[derive(Drop)]
+#[derive(Clone, Copy)]
 pub struct Queue {
     pub ids: [u16; 64],
     pub keys: [u32; 64],
@@ -37,14 +39,14 @@ pub struct Queue {
 }
 
 // What a change answers, and the queue after it.
-#[derive(Drop)]
+#[derive(Clone, Copy)]
 pub struct Changed {
     pub answer: u32,
     pub queue: Queue,
 }
 
 // What a search answers: an entry, or zeros.
-#[derive(Drop)]
+#[derive(Clone, Copy)]
 pub struct Found {
     pub answer: u32,
     pub key: u32,
@@ -53,7 +55,7 @@ pub struct Found {
 }
 
 // Entries of a queue, by their ids, and beside each the place at which the queue has it. What a place is stays inside the queue.
-#[derive(Drop)]
+#[derive(Clone, Copy)]
 pub struct Placed {
     pub ids: [u16; 64],
     pub places: [usize; 64],

@@ -1,5 +1,5 @@
 // The draws of a step. A row of a table is a draw modulo the count of rows; the rest is what the division leaves.
-#[derive(Drop)]
+#[derive(Clone, Copy)]
 pub struct Draws {
     pub k: u32,
     pub a: u32,

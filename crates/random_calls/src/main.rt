@@ -14,7 +14,7 @@ mod plan;
 mod seen;
 
 // What a step leaves.
-#[derive(Drop)]
+#[derive(Clone, Copy)]
 struct Made {
     planner: Planner,
     seen: Seen,

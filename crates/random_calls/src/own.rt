@@ -4,7 +4,7 @@ use planner::{Planner, filled};
 use std::num::wrapping_add_u32;
 
 // The copy after the rounds; how many were held, and how many bytes their packets have.
-#[derive(Drop)]
+#[derive(Clone, Copy)]
 pub struct Own {
     pub planner: Planner,
     pub count: u32,

@@ -4,7 +4,7 @@ use calls::Call;
 
 // B and F of the last opening, zeros if it was refused; L, that opening's T or the start of the last round held since; the mood, which is of
 // the last opening, refused or not; and whether the call before was a round that was held.
-#[derive(Drop)]
+#[derive(Clone, Copy)]
 pub struct Seen {
     pub slots: u32,
     pub frame: u32,

@@ -1,4 +1,6 @@
 // Tests of a round that ask nothing of a planner: where its packet ends, whether its start fits, which packets may ride, and what is due after it.
+#![tactic(auto)]
+
 ghost use Rattle.std.specs.Prelude.{◌≡◌, ◌≤◌, length};
 ghost use Rattle.basics.specs.Decides.{Decides};
 ghost use Rattle.basics.specs.Limits.{places};

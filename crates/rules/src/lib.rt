@@ -1,1 +1,3 @@
 // The rules of the planner, with no code: definitions on numbers and lists, and the theorems about them, all in specs/.
+
+#![tactic(auto)]

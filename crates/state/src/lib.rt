@@ -10,7 +10,7 @@ mod soundness;
 
 // What opening sets, and nothing changes later: B, F and G, and 1 with messages on, 0 with them off.
 #[repr(C)]
-#[derive(Drop)]
+#[derive(Clone, Copy)]
 pub struct Setting {
     pub slots: u32,
     pub frame: u32,
@@ -20,7 +20,7 @@ pub struct Setting {
 
 // The setting and L, the messages that wait, the streams in ascending id, and the queue that files them under their due times.
 #[repr(C)]
-#[derive(Drop)]
+#[derive(Clone, Copy)]
 pub struct Planner {
     pub setting: Setting,
     pub last: u32,
@@ -30,7 +30,7 @@ pub struct Planner {
 }
 
 // What a change answers, and the planner after it.
-#[derive(Drop)]
+#[derive(Clone, Copy)]
 pub struct Changed {
     pub answer: u32,
     pub planner: Planner,

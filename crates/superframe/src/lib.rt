@@ -1,4 +1,6 @@
 // The superframe helper: the least common multiple of the streams' periods, for the design office's C tool.
+#![tactic(auto)]
+
 ghost use Rattle.std.specs.Prelude.{◌≡◌};
 ghost use Rattle.basics.specs.Decides.{Decides};
 ghost use Rattle.basics.specs.Limits.{longest_frame, longest_period};

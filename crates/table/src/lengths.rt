@@ -62,7 +62,7 @@ pub fn advance(periods: &[u16; 64], times: &mut [u16; 64], count: usize, t: u16)
 }
 
 // The sums of the test at one length: the demand rule's, and the busy length's.
-#[derive(Drop)]
+#[derive(Clone, Copy)]
 struct Sums {
     demand: u32,
     most: u32,

@@ -1,4 +1,6 @@
 // What the programs that read cases share: the lines of a text, and bytes as hex digits, two a byte.
+#![tactic(auto)]
+
 ghost use Rattle.std.specs.Prelude.{◌≤◌, length};
 
 const MOST_DIGITS: usize = 4096;

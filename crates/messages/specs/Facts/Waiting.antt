@@ -19,6 +19,8 @@ all_taken : (P : ℕ → Type 0) → ((x : ℕ) → IsProp (P x)) → (n : ℕ) 
 all_taken P prop n l all x m = ∥∥₁_elim m (prop x) (λ place. go n l all place)
   where
     go : (n : ℕ) (l : List ℕ) → ((k : ℕ) → k < n → P (get_or l k 0)) → Memᴰ x (take n l) → P x
+    go zero _ all x3 = elim x3 [ ]
+    go (suc n) [] all x6 = elim x6 [ ]
     go (suc n) (y ∷ ys) all (Memᴰ.head e) = subst P (sym e) (all 0 (omega arith))
     go (suc n) (y ∷ ys) all (Memᴰ.tail place) = go n ys (λ k low. all (suc k) (omega arith)) place
 

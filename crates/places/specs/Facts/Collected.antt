@@ -44,6 +44,7 @@ module _ (at : ℕ → Entry) where
 
   -- .. and every place that holds one is collected
   pub in_collected : (n i : ℕ) → i < n → 1 ≤ (at i).id → Mem (at i) (collected at n)
+  in_collected zero i below holds = elim below [ ]
   in_collected (suc n) i below holds = go (λ less. in_collected n i less holds) (dec_lt i n) (dec_le 1 (at n).id)
     where
       go : (i < n → Mem (at i) (collected at n)) → Dec (i < n) → Dec (1 ≤ (at n).id) → Mem (at i) (collected at (suc n))
@@ -81,6 +82,7 @@ module _ (at : ℕ → Entry) where
 
   -- with one of the first n places free, fewer than n entries are collected from them
   pub collected_room : (n i : ℕ) → i < n → (at i).id ≡ 0 → length (collected at n) < n
+  collected_room zero i below free = elim below [ ]
   collected_room (suc n) i below free = go (λ less. collected_room n i less free) (dec_lt i n) (dec_le 1 (at n).id)
     where
       go : (i < n → length (collected at n) < n) → Dec (i < n) → Dec (1 ≤ (at n).id) → length (collected at (suc n)) < suc n

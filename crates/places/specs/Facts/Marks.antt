@@ -34,6 +34,7 @@ module _ (met : ℕ → ℕ) where
     -- as many marks as places: each has one
     pub all_marked : (n : ℕ) → marked met n ≡ n → (i : ℕ) → i < n → met i ≡ 1
     unfolding marked
+    all_marked zero full i below = elim below [ ]
     all_marked (suc n) full i below =
         let here : met n ≡ 1 = omega (arith, marks n, marked_few n) in
         go here (all_marked n (omega arith) i) (dec_lt i n)
@@ -58,6 +59,7 @@ module _ (met met' : ℕ → ℕ) (i : ℕ) (free : met i ≡ 0) (here : met' i 
   -- with a mark set at one of the first n places that had none, they have one mark more
   pub marked_more : (n : ℕ) → i < n → marked met' n ≡ marked met n + 1
   unfolding marked
+  marked_more zero below = elim below [ ]
   marked_more (suc n) below = go (marked_more n) (dec_lt i n)
     where
       go : (i < n → marked met' n ≡ marked met n + 1) → Dec (i < n) → met' n + marked met' n ≡ met n + marked met n + 1

@@ -32,6 +32,8 @@ no_entry = triple 0 0 0
 -- the entries after the one at place i are those that stand after it
 after_place : (es : List Entry) → InOrder es → (i : ℕ) (d : Entry) → i < length es → after (get_or es i d) es ≡ drop (suc i) es
 unfolding after
+after_place [] ordered i d within = elim within [ ]
+after_place [] ordered i d within = elim within [ ]
 after_place (x ∷ xs) ordered zero d within =
     if_neg (before x x) (λ self. before_asym x x self self) (x ∷ after x xs) (after x xs)
     ∙ (filter-eq_self (λ (e : Entry). before x e)).1 (Pairwise-cons.0 ordered).0

@@ -27,7 +27,7 @@ length_first s (suc n) = ap suc (length_first s n)
 
 of_first : (s : Stream) (n : ℕ) {q : Packet} → Memᴰ q (first_packets s n) → (k : ℕ) × (k < n) × (q ≡ packet s k)
 unfolding first_packets
-of_first s zero m = absurd (Memᴰ.not_nil m)
+of_first s zero m = absurd (Memᴰ.not-nil m)
 of_first s (suc n) m = go (λ m'. of_first s n m') (Memᴰ.cases_cons m)
   where
     go : {q : Packet} → (Memᴰ q (first_packets s n) → (k : ℕ) × (k < n) × (q ≡ packet s k))
@@ -37,6 +37,7 @@ of_first s (suc n) m = go (λ m'. of_first s n m') (Memᴰ.cases_cons m)
 
 in_first : (s : Stream) (n k : ℕ) → k < n → Mem (packet s k) (first_packets s n)
 unfolding first_packets
+in_first s zero k below = elim below [ ]
 in_first s (suc n) k below = go (λ l. in_first s n k l) (dec_lt k n)
   where
     go : (k < n → Mem (packet s k) (first_packets s n)) → Dec (k < n) → Mem (packet s k) (packet s n ∷ first_packets s n)
@@ -70,7 +71,7 @@ length_due_list (s ∷ ss) t =
 pub of_due_list : (ss : List Stream) → AllWellFormed ss → (t : ℕ) {q : Packet} → Memᴰ q (due_list ss t)
     → ((s : Stream) × Mem s ss × ((k : ℕ) × (q ≡ packet s k))) × (q.due ≤ t)
 unfolding due_list
-of_due_list [] all t m = absurd (Memᴰ.not_nil m)
+of_due_list [] all t m = absurd (Memᴰ.not-nil m)
 of_due_list (s ∷ ss) all t m = go (λ m'. of_due_list ss (rest_of all) t m') (Memᴰ.append_cases (first_packets s (packets_by s.period (due s) t)) m)
   where
     go : {q : Packet} → (Memᴰ q (due_list ss t) → ((x : Stream) × Mem x ss × ((k : ℕ) × (q ≡ packet x k))) × (q.due ≤ t))
@@ -92,6 +93,7 @@ in_due_list ss all t q of early =
     (λ place. rw e (go s k (subst (λ (x : Packet). x.due ≤ t) e early) ss all place)))
   where
     go : (s : Stream) (k : ℕ) → (packet s k).due ≤ t → (ss : List Stream) → AllWellFormed ss → Memᴰ s ss → Mem (packet s k) (due_list ss t)
+    go s k in_time [] all x'' = elim x'' [ ]
     go s k in_time (x ∷ xs) all (Memᴰ.head e) =
         mem-append_left (due_list xs t)
         (subst (λ (y : Stream). Mem (packet s k) (first_packets y (packets_by y.period (due y) t))) e

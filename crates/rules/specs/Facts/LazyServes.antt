@@ -84,6 +84,7 @@ module _ (b gap : ℕ) (positive : 1 ≤ b) (gap_positive : 1 ≤ gap) (st : Sta
   -- .. and none of the table after it, then or later
   gone : (m n : ℕ) → m < n → (q : Packet) → Mem q (plan m).packets → PacketOf (at n).table q → ⊥
   unfolding plan at state_at after_round
+  gone m zero below q sent of = elim below [ ]
   gone m (suc n) below q sent of = go (λ less. gone m n less q sent (packet_was (at n).table (slots b (starts n) (at n).table) q of)) (dec_lt m n)
     where
       go : (m < n → ⊥) → Dec (m < n) → ⊥

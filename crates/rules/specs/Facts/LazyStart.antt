@@ -77,6 +77,7 @@ module _ (f : ℕ → ℕ) (cap from : ℕ) where
 
   least_by_value : (n k : ℕ) → k < n → least_of f cap from n ≤ f (from + k)
   unfolding least_of
+  least_by_value zero k below = elim below [ ]
   least_by_value (suc n) k below = go (least_by_value n k) (dec_lt k n)
     where
       go : (k < n → least_of f cap from n ≤ f (from + k)) → Dec (k < n) → min (f (from + n)) (least_of f cap from n) ≤ f (from + k)
@@ -169,8 +170,9 @@ unfolding first_due
 first_due_before ss s m = ∥∥₁_elim m le_prop (λ place. go ss place)
   where
     go : (ss : List Stream) → Memᴰ s ss → first_due ss ≤ due s
+    go [] x' = elim x' [ ]
     go (x ∷ []) (Memᴰ.head e) = rw e (omega arith)
-    go (x ∷ []) (Memᴰ.tail place) = absurd (Memᴰ.not_nil place)
+    go (x ∷ []) (Memᴰ.tail place) = absurd (Memᴰ.not-nil place)
     go (x ∷ y ∷ ys) (Memᴰ.head e) = rw e (omega arith)
     go (x ∷ y ∷ ys) (Memᴰ.tail place) = omega (arith, go (y ∷ ys) place)
 

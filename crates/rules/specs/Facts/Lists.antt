@@ -13,16 +13,19 @@ use native.Mathlib.Omega.{arith}
 module _ {A : Type 0} where
   -- a list with one of its elements taken out
   without : (ys : List A) {x : A} → Memᴰ x ys → List A
+  without [] x3 = elim x3 [ ]
   without (y ∷ ys) (Memᴰ.head e) = ys
   without (y ∷ ys) (Memᴰ.tail place) = y ∷ without ys place
 
   length_without : (ys : List A) {x : A} (place : Memᴰ x ys) → length ys ≡ suc (length (without ys place))
   unfolding without
+  length_without [] place = elim place [ ]
   length_without (y ∷ ys) (Memᴰ.head e) = refl
   length_without (y ∷ ys) (Memᴰ.tail place) = ap suc (length_without ys place)
 
   still_there : (ys : List A) {x z : A} (place : Memᴰ x ys) → Memᴰ z ys → z ≢ x → Memᴰ z (without ys place)
   unfolding without
+  still_there [] {z = z} place _ other = elim place [ ]
   still_there (y ∷ ys) (Memᴰ.head e) (Memᴰ.head e') other = absurd (other (e' ∙ sym e))
   still_there (y ∷ ys) (Memᴰ.head e) (Memᴰ.tail m) other = m
   still_there (y ∷ ys) (Memᴰ.tail place) (Memᴰ.head e') other = Memᴰ.head e'

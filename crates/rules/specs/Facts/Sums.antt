@@ -60,6 +60,7 @@ future_counts ss all s m t early = ∥∥₁_elim m le_prop (λ place. go ss all
     here x w in_time = (counted_iff_due x.period (period_positive x w) (due x) t 0).1 (omega arith)
 
     go : (ss : List Stream) → AllWellFormed ss → Memᴰ s ss → 0 < future ss t
+    go [] all x'' = elim x'' [ ]
     go (x ∷ xs) all (Memᴰ.head e) = omega (arith, here x (first_of all) (subst (λ (y : Stream). due y ≤ t) e early))
     go (x ∷ xs) all (Memᴰ.tail place) = omega (arith, go xs (rest_of all) place)
 

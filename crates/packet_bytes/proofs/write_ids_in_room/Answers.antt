@@ -1,0 +1,11 @@
+use Prim.Native.Nat.{◌-◌}
+use native.Mathlib.Omega.{arith}
+use lib.ListN.{length, length-set}
+use Rattle.packet_bytes.specs.Facts.Stores.{AreStored, none_stored, length_stored, one_more_stored, all_stored}
+use Rattle.packet_bytes.proofs.write_ids_in_room.Goals as goal
+
+pub loop-k-init : goal.loop-k-init
+loop-k-init c = none_stored _ _ c.requires
+
+pub loop-k-preserved : goal.loop-k-preserved
+loop-k-preserved c = one_more_stored _ _ c.requires _ _ c.loop-k.invariant c.loop-k-test.true

@@ -1,0 +1,16 @@
+-- `places::changes::place_of` meets its contract: no place before i has the id.
+use mathlib.Core.Path.{◌≡◌, sym, ◌∙◌}
+use Prim.Native.Nat.{ℕ, ◌≤◌, ◌<◌, ◌-◌}
+use native.Mathlib.Nat.{lt_irrefl}
+use native.Mathlib.Omega.{arith}
+use borrow.Author.Count.{below_none, below_more}
+use borrow.Author.Rules.{rules}
+use lib.ListN.{get_or}
+use Rattle.basics.specs.Limits.{places}
+use Rattle.places.proofs.changes.place_of.Given as goal
+
+abbrev pub invariant-loop-i : goal.invariant-loop-i
+invariant-loop-i l = (l.i ≤ places) × ((j : ℕ) → j < l.i → get_or l.ids j 0 ≡ l.id → ⊥)
+
+abbrev pub decreases-loop-i : goal.decreases-loop-i
+decreases-loop-i l = places - l.i

@@ -1,0 +1,11 @@
+-- `table::columns::ids_in_range` meets its contract: the ids before place i are written, the places from it on are still free.
+use Prim.Native.Nat.{◌-◌, ◌≤◌}
+use native.Mathlib.Omega.{arith}
+use Rattle.table.specs.Facts.Ids.{IdsTo, ids_none, ids_more}
+use Rattle.table.proofs.columns.ids_in_range.Given as goal
+
+abbrev pub invariant-loop-i : goal.invariant-loop-i
+invariant-loop-i l = (l.i ≤ l.table.count) × IdsTo l.streams l.i l.ids
+
+abbrev pub decreases-loop-i : goal.decreases-loop-i
+decreases-loop-i l = l.table.count - l.i

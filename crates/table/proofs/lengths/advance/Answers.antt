@@ -1,0 +1,28 @@
+use mathlib.Core.Path.{refl}
+use Prim.Native.Nat.{◌-◌}
+use native.Mathlib.Omega.{arith}
+use lib.ListN.{get_or}
+use Rattle.table.specs.Facts.Lengths.{GoneOn, none_gone_on, one_more_gone_on, all_gone_on, hits_few, hits_before_few}
+use Rattle.table.specs.NoDivision.{NeverDivides, never_divides}
+use Rattle.table.proofs.lengths.advance.Goals as goal
+
+pub loop-i-init : goal.loop-i-init
+loop-i-init c = none_gone_on _ _ _ _
+
+pub overflow_add-sum : goal.overflow_add-sum
+overflow_add-sum c =
+    let args = c.args in
+    let loop = c.loop-i in
+    omega (arith, hits_few (get_or loop.times loop.i 0) args.t, hits_before_few args.times.now args.t loop.i)
+
+pub loop-i-preserved : goal.loop-i-preserved
+loop-i-preserved c =
+    let pre = c.requires in
+    let gone_on = c.loop-i.invariant in
+    let inside = c.loop-i-test.true in
+    let hit = c.hit-sum in
+    let after = c.time_after in
+    one_more_gone_on gone_on inside pre.room hit.result after.result hit.ensures after.ensures
+
+pub returns : goal.returns
+returns c = all_gone_on c.loop-i.invariant c.loop-i-test.false

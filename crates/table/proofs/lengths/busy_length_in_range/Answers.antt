@@ -1,0 +1,39 @@
+use mathlib.Core.Path.{refl}
+use Prim.Native.Nat.{◌-◌}
+use native.Mathlib.Omega.{arith}
+use mir.Syntax.{w16}
+use borrow.Kind.Array.{good_length, e_int}
+use Rattle.table.specs.Facts.Busy.{TestedTo, slots_fit, can_carry, rule_fails, one_length_more, busy_found, frame_reached, can_narrow_periods, can_narrow_deadlines, test_begins}
+use Rattle.table.specs.NoDivision.{LoopsNeverDivide, loops_never_divide}
+use Rattle.table.proofs.Shape.{table_shape}
+use Rattle.table.proofs.lengths.busy_length_in_range.Goals as goal
+
+pub narrow_column_in_range-periods-requires : goal.narrow_column_in_range-periods-requires
+narrow_column_in_range-periods-requires c = can_narrow_periods _ _ _ c.requires (table_shape c.args.table _ c.well_formed.0)
+
+pub narrow_column_in_range-dues-requires : goal.narrow_column_in_range-dues-requires
+narrow_column_in_range-dues-requires c =
+    can_narrow_deadlines _ _ _ c.requires (table_shape c.args.table _ c.well_formed.0)
+
+pub loop-t-init : goal.loop-t-init
+loop-t-init c =
+    let shape = table_shape c.args.table _ c.well_formed.0 in
+    let are-periods = c.narrow_column_in_range-periods.ensures in
+    let dues = c.narrow_column_in_range-dues in
+    test_begins _ _ _ c.requires shape are-periods (good_length (e_int w16) 64 dues.result _ dues.type_inv) dues.ensures
+
+pub sums_at-at-requires : goal.sums_at-at-requires
+sums_at-at-requires c =
+    let pre = c.requires in
+    let loop = c.loop-t in
+    can_carry _ _ _ pre loop.invariant c.loop-t-test.true
+
+pub returns-then-at-slots : goal.returns-then-at-slots
+returns-then-at-slots c =
+    let pre = c.requires in
+    let are-sums = c.sums_at-at.ensures in
+    let tested = one_length_more _ _ _ pre c.loop-t.invariant are-sums c.loop-t-test.true c.if-slots-t.false in
+    busy_found _ _ _ pre tested (omega arith) c.if-at-slots.true
+
+pub returns : goal.returns
+returns c = frame_reached _ _ _ c.requires c.loop-t.invariant c.loop-t-test.false

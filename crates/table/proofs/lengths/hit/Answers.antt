@@ -1,0 +1,11 @@
+-- `table::lengths::hit` meets its contract: the two cases are those of `hits`.
+use mathlib.Core.Path.{refl, sym}
+use Rattle.table.specs.Facts.Lengths.{hits_yes, hits_no}
+use Rattle.table.specs.NoDivision.{NeverDivides, never_divides}
+use Rattle.table.proofs.lengths.hit.Goals as goal
+
+pub returns-then-time-t : goal.returns-then-time-t
+returns-then-time-t c = sym (hits_yes _ _ c.if-time-t.true)
+
+pub returns : goal.returns
+returns c = sym (hits_no _ _ c.if-time-t.false)

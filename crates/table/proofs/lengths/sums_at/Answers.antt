@@ -1,0 +1,13 @@
+-- `table::lengths::sums_at` meets its contract: each walk goes one length further, and its sum with it.
+use mathlib.Core.Path.{refl}
+use native.Mathlib.Omega.{arith}
+use Rattle.table.specs.Facts.Lengths.{can_advance, sums_carried}
+use Rattle.table.specs.NoDivision.{NeverDivides, never_divides}
+use Rattle.table.proofs.lengths.sums_at.Goals as goal
+
+pub returns : goal.returns
+returns c =
+    let pre = c.requires in
+    let dues-gone-on = c.advance.ensures in
+    let releases-gone-on = c.advance-2.ensures in
+    sums_carried pre.has pre.formed (omega arith) pre.sums dues-gone-on releases-gone-on

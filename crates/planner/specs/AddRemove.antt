@@ -7,7 +7,7 @@ use Rattle.basics.specs.OneTo.{OneTo, decide_one_to, not_in}
 use Rattle.basics.specs.Limits.{places, largest_id, furthest_release, longest_period}
 use Rattle.basics.specs.Refusals.{Refusal, answer_of}
 use Rattle.rules.specs.Demand.{DemandRule, StartRule}
-use Rattle.rules.specs.Decide.{decide_demand_rule, decide_start_rule}
+use Rattle.rules.proofs.Decide.{decide_demand_rule, decide_start_rule}
 use Rattle.table.specs.declared.Record.{Record}
 use Rattle.table.specs.Changes.{HasId, decide_id, put_by_id, without_id}
 use Rattle.state.specs.Content.{Content, content, slots_of, frame_of, streams_in, now_of, with_table}

@@ -6,5 +6,3 @@ pub mod Slots
 pub mod Plans
 pub mod Runs
 pub mod Ready
-pub mod Decide
-pub mod Facts

@@ -8,7 +8,7 @@ use Rattle.std.proofs.Math.Decide.{ℕ_discrete, dec_le, dec_lt, dec_dvd, map_de
 use Rattle.basics.specs.OneTo.{decide_one_to}
 use Rattle.basics.specs.Limits.{furthest_release, largest_id, longest_period, last_start, places, most_waiting}
 use Rattle.basics.specs.Refusals.{answer_of}
-use Rattle.rules.specs.Decide.{decide_demand_rule, decide_start_rule}
+use Rattle.rules.proofs.Decide.{decide_demand_rule, decide_start_rule}
 use Rattle.table.specs.Table.{due_of}
 use Rattle.table.specs.Range.{RecordInRange, RecordsInRange, AreNear}
 use Rattle.table.specs.declared.Record.{Record}
@@ -21,7 +21,7 @@ use Rattle.state.specs.declared.Setting.{Setting}
 use Rattle.state.specs.Open.{open_refusals}
 use Rattle.state.specs.Facts.Open.{NumbersInRange, range_numbers, in_range_by_numbers, open_exact}
 use Rattle.state.specs.declared.Planner.{Planner}
-use Rattle.rules.specs.Facts.LazyStart.{lazy_unique}
+use Rattle.rules.proofs.Facts.LazyStart.{lazy_unique}
 use Rattle.state.specs.Facts.Sound.{sound_start}
 use Rattle.state.specs.Start.{IsStart, StartsLate}
 

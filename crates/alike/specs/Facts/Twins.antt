@@ -4,7 +4,7 @@ use Rattle.std.proofs.Common.{sym, ap, subst, ◌∙◌, lt_irrefl, arith, take_
 use Rattle.std.proofs.Math.Decide.{ℕ_discrete}
 use Rattle.basics.specs.Refusals.{Refusal, answer_of}
 use Rattle.basics.specs.Facts.Refusals.{answer_first, answer_later}
-use Rattle.rules.specs.Facts.LazyStart.{lazy_unique}
+use Rattle.rules.proofs.Facts.LazyStart.{lazy_unique}
 use Rattle.state.specs.Content.{Content, content, cap_of, slots_of, streams_in}
 use Rattle.state.specs.Sound.{Sound}
 use Rattle.state.specs.Decide.{decide_sound}

@@ -11,9 +11,9 @@ use Rattle.rules.specs.Streams.{Stream}
 use Rattle.rules.specs.Slots.{passed}
 use Rattle.rules.specs.Plans.{Round}
 use Rattle.rules.specs.Runs
-use Rattle.rules.specs.Facts.Lists.{mem_nonempty, no_longer}
-use Rattle.rules.specs.Facts.RoundKept.{passed_elim}
-use Rattle.rules.specs.Facts.Packets.{advanced, advanced_next}
+use Rattle.rules.proofs.Facts.Lists.{mem_nonempty, no_longer}
+use Rattle.rules.proofs.Facts.RoundKept.{passed_elim}
+use Rattle.rules.proofs.Facts.Packets.{advanced, advanced_next}
 use Rattle.basics.specs.Counts.{times_in}
 use Rattle.demands.specs.CallLists.{HeldRound, times_sent, end_of, start_of}
 

@@ -4,8 +4,8 @@ use Rattle.std.proofs.Common.{arith}
 use Rattle.rules.specs.Plans.{Round}
 use Rattle.rules.specs.Runs.{State, IsLazyRun, run_plan}
 use Rattle.rules.specs.Ready.{IsReadyState}
-use Rattle.rules.specs.Facts.LazyRun.{lazy_starts, lazy_run_exists}
-use Rattle.rules.specs.Facts.LazyServes.{lazy_is_plan, lazy_serves, lazy_keeps_gap}
+use Rattle.rules.proofs.Facts.LazyRun.{lazy_starts, lazy_run_exists}
+use Rattle.rules.proofs.Facts.LazyServes.{lazy_is_plan, lazy_serves, lazy_keeps_gap}
 use Rattle.state.specs.Content.{Content, content, now_of, cap_of, slots_of, frame_of, start_gap_of, streams_in}
 use Rattle.state.specs.Sound.{ContentSound, Sound}
 use Rattle.state.specs.Facts.Sound.{content_ready, frame_is_busy}

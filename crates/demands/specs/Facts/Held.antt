@@ -11,9 +11,9 @@ use Rattle.rules.specs.Streams.{Stream, Packet, packet, MayRide}
 use Rattle.rules.specs.Slots.{slots, served, Served}
 use Rattle.rules.specs.Plans.{Round}
 use Rattle.rules.specs.Runs.{Held, none, then, round_at, after}
-use Rattle.rules.specs.Facts.Slots.{IsChoice, choice_differ}
-use Rattle.rules.specs.Facts.RoundKept.{round_choice, served_iff}
-use Rattle.rules.specs.Facts.Packets.{advanced, advanced_none, packet_advanced}
+use Rattle.rules.proofs.Facts.Slots.{IsChoice, choice_differ}
+use Rattle.rules.proofs.Facts.RoundKept.{round_choice, served_iff}
+use Rattle.rules.proofs.Facts.Packets.{advanced, advanced_none, packet_advanced}
 use Rattle.table.specs.Table.{stream_of, with_release}
 use Rattle.table.specs.Facts.Streams.{seen_changed, numbers}
 use Rattle.table.specs.Changes.{HasId}

@@ -16,9 +16,9 @@ use Rattle.std.proofs.lemmas.List.{length-map}
 use Rattle.basics.specs.Counts.{times_in}
 use Rattle.rules.specs.Streams.{Stream, Packet, packet, MayRide, PacketOf}
 use Rattle.rules.specs.Plans.{Round, IsPlan, Serves}
-use Rattle.rules.specs.Facts.Equality.{packet_discrete}
-use Rattle.rules.specs.Facts.Lists.{no_longer, filter_halves}
-use Rattle.rules.specs.Facts.Packets.{advanced, packet_advanced}
+use Rattle.rules.proofs.Facts.Equality.{packet_discrete}
+use Rattle.rules.proofs.Facts.Lists.{no_longer, filter_halves}
+use Rattle.rules.proofs.Facts.Packets.{advanced, packet_advanced}
 use Rattle.table.specs.Facts.Streams.{all_streams, seen_changed}
 use Rattle.messages.specs.Numbers.{stream_ids}
 use Rattle.packet_bytes.specs.Layout.{Values}

@@ -7,8 +7,8 @@ use Rattle.std.proofs.Math.Decide.{dec_lt}
 use Rattle.rules.specs.Streams.{Stream, packet, PacketOf}
 use Rattle.rules.specs.Plans.{Round}
 use Rattle.rules.specs.Ready.{Fits, IsReadyState}
-use Rattle.rules.specs.Facts.Packets.{packet_advanced, packet_due_after}
-use Rattle.rules.specs.Facts.Fewest.{held_fewest}
+use Rattle.rules.proofs.Facts.Packets.{packet_advanced, packet_due_after}
+use Rattle.rules.proofs.Facts.Fewest.{held_fewest}
 use Rattle.state.specs.Content.{Content, slots_of, streams_in, now_of, start_gap_of}
 use Rattle.state.specs.Sound.{ContentSound}
 use Rattle.state.specs.Facts.Sound.{all_formed, content_ready}

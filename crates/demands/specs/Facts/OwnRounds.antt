@@ -9,8 +9,8 @@ use Rattle.std.proofs.lemmas.List.{length-map}
 use Rattle.basics.specs.Counts.{times_in}
 use Rattle.rules.specs.Streams.{Stream, packet, MayRide}
 use Rattle.rules.specs.Slots.{slots}
-use Rattle.rules.specs.Facts.Slots.{IsChoice, choice_differ}
-use Rattle.rules.specs.Facts.RoundKept.{served_iff}
+use Rattle.rules.proofs.Facts.Slots.{IsChoice, choice_differ}
+use Rattle.rules.proofs.Facts.RoundKept.{served_iff}
 use Rattle.table.specs.Table.{stream_of, due_of, with_release}
 use Rattle.table.specs.Changes
 use Rattle.table.specs.Range.{AreNear}

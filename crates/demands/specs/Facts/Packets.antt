@@ -6,7 +6,7 @@ use Rattle.std.proofs.Math.Decide.{dec_lt}
 use Rattle.basics.specs.Refusals.{answer_of}
 use Rattle.basics.specs.Limits.{last_start}
 use Rattle.rules.specs.Slots.{slots}
-use Rattle.rules.specs.Facts.Slots.{choice_differ}
+use Rattle.rules.proofs.Facts.Slots.{choice_differ}
 use Rattle.state.specs.Content.{Content, content, slots_of, streams_in}
 use Rattle.state.specs.Sound.{Sound}
 use Rattle.state.specs.Facts.Sound.{content_ready}

@@ -8,7 +8,7 @@ use Rattle.rules.specs.Demand.{IsLazyStart}
 use Rattle.rules.specs.Plans.{Round}
 use Rattle.rules.specs.Runs.{State, Held, none, then, round_at, state_at, IsLazyRun}
 use Rattle.rules.specs.Runs
-use Rattle.rules.specs.Facts.LazyStart.{lazy_unique}
+use Rattle.rules.proofs.Facts.LazyStart.{lazy_unique}
 use Rattle.state.specs.Content.{content, slots_of, start_gap_of}
 use Rattle.state.specs.Sound.{Sound}
 use Rattle.state.specs.declared.Planner.{Planner}

@@ -6,7 +6,7 @@ use Rattle.std.proofs.Math.Bool.{So, So-prop}
 use mathlib.Core.List.{List, [], ◌∷◌, Mem, not-mem-nil, forall_mem-cons}
 use Rattle.basics.specs.Refusals.{Refusal}
 use Rattle.rules.specs.Slots.{after_round}
-use Rattle.rules.specs.Facts.Tests.{both}
+use Rattle.rules.proofs.Facts.Tests.{both}
 use Rattle.table.specs.Changes.{without_id}
 use Rattle.superframe.specs.Superframe.{packed}
 use Rattle.superframe.specs.Facts.SuperframeTests.{superframe_test, tested_superframe}

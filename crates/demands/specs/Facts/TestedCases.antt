@@ -14,8 +14,8 @@ use Rattle.basics.specs.Facts.Refusals.{answer_first, answer_later, AllPass, ans
 use Rattle.basics.specs.Limits.{last_start}
 use Rattle.rules.specs.Demand.{packets_by, demand, future, DemandRule, StartRule}
 use Rattle.rules.specs.Slots.{riders, goes_before, put_in_order, in_order, slots}
-use Rattle.rules.specs.Facts.LazyStart.{least_of, latest, lazy_start, lazy_start_is_lazy, lazy_unique, first_due, first_due_is_first}
-use Rattle.rules.specs.Facts.Tests.{both, all_below, is_table, is_busy, keeps_demand, keeps_start, is_ready, tested_demand, tested_ready}
+use Rattle.rules.proofs.Facts.LazyStart.{least_of, latest, lazy_start, lazy_start_is_lazy, lazy_unique, first_due, first_due_is_first}
+use Rattle.rules.proofs.Facts.Tests.{both, all_below, is_table, is_busy, keeps_demand, keeps_start, is_ready, tested_demand, tested_ready}
 use Rattle.table.specs.Table.{as_streams}
 use Rattle.table.specs.Changes.{put_by_id}
 use Rattle.state.specs.Content.{Content, content, now_of, cap_of, slots_of, frame_of, streams_in}

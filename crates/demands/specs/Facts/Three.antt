@@ -4,7 +4,7 @@ use Rattle.std.proofs.Math.Path.{subst⁻¹}
 use Rattle.std.proofs.Common.{arith}
 use Rattle.rules.specs.Streams.{packet}
 use Rattle.rules.specs.Plans.{Round, IsPlan}
-use Rattle.rules.specs.Facts.LazyStart.{lazy_fits}
+use Rattle.rules.proofs.Facts.LazyStart.{lazy_fits}
 use Rattle.state.specs.Content.{content, now_of, cap_of, slots_of, streams_in}
 use Rattle.state.specs.Sound.{Sound}
 use Rattle.state.specs.Facts.Sound.{fits_now, sound_start}

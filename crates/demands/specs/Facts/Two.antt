@@ -14,10 +14,10 @@ use Rattle.basics.specs.Limits.{last_start}
 use Rattle.rules.specs.Streams.{Stream, Packet, packet, IsTable}
 use Rattle.rules.specs.Demand.{DemandRule, StartRule, DueAfter}
 use Rattle.rules.specs.Slots.{slots, after_round}
-use Rattle.rules.specs.Facts.LazyStart.{lazy_unique}
-use Rattle.rules.specs.Decide.{decide_demand_rule, decide_start_rule}
-use Rattle.rules.specs.Facts.Exact.{demand_exact, demand_fails_exactly, start_exact, start_fails_exactly}
-use Rattle.rules.specs.Facts.SlotPackets.{slots_are_first}
+use Rattle.rules.proofs.Facts.LazyStart.{lazy_unique}
+use Rattle.rules.proofs.Decide.{decide_demand_rule, decide_start_rule}
+use Rattle.rules.proofs.Facts.Exact.{demand_exact, demand_fails_exactly, start_exact, start_fails_exactly}
+use Rattle.rules.proofs.Facts.SlotPackets.{slots_are_first}
 use Rattle.state.specs.Content.{Content, content, now_of, cap_of, slots_of, streams_in}
 use Rattle.state.specs.Sound.{Sound}
 use Rattle.state.specs.Facts.Sound.{content_table, sound_start, due_after_now}

@@ -11,7 +11,7 @@ use Rattle.basics.specs.Facts.Refusals.{answer_later, answer_zero, answer_after,
 use Rattle.basics.specs.Limits.{places, longest_period, furthest_release, largest_id}
 use Rattle.basics.specs.OneTo.{decide_one_to}
 use Rattle.rules.specs.Demand.{DemandRule, StartRule}
-use Rattle.rules.specs.Decide.{decide_demand_rule, decide_start_rule}
+use Rattle.rules.proofs.Decide.{decide_demand_rule, decide_start_rule}
 use Rattle.table.specs.Table.{as_streams, streams_of}
 use Rattle.table.specs.Facts.Changes.{records_count}
 use Rattle.table.specs.declared.Record.{Record}

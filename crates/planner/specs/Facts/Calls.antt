@@ -13,7 +13,7 @@ use Rattle.basics.specs.Limits.{last_start}
 use Rattle.rules.specs.Streams.{Stream}
 use Rattle.rules.specs.Demand.{future}
 use Rattle.rules.specs.Slots.{riders, in_order, slots}
-use Rattle.rules.specs.Facts.LazyStart.{lazy_unique}
+use Rattle.rules.proofs.Facts.LazyStart.{lazy_unique}
 use Rattle.table.specs.Facts.Streams.{none_seen}
 use Rattle.table.specs.Facts.Start.{nothing_due}
 use Rattle.state.specs.Content.{Content, content, now_of, cap_of, slots_of, streams_in}

@@ -12,7 +12,7 @@ use Rattle.std.proofs.Math.Decide.{ℕ_discrete}
 use Rattle.std.proofs.lemmas.List.{length-map}
 use Rattle.basics.specs.Limits.{places, longest_period, furthest_release, largest_key, key_span, largest_id}
 use Rattle.basics.specs.OneTo.{OneTo}
-use Rattle.rules.specs.Facts.Lists.{no_longer}
+use Rattle.rules.proofs.Facts.Lists.{no_longer}
 use Rattle.table.specs.Table.{due_of}
 use Rattle.table.specs.Changes.{HasId, Ascending, put_by_id, without_id, sent}
 use Rattle.table.specs.Needs.{stepped}

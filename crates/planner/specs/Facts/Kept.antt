@@ -13,10 +13,10 @@ use Rattle.basics.specs.Limits.{last_start, places, furthest_release}
 use Rattle.rules.specs.Streams.{Stream}
 use Rattle.rules.specs.Demand.{DemandRule, StartRule}
 use Rattle.rules.specs.Slots.{slots, next, passed, after_round}
-use Rattle.rules.specs.Facts.LazyStart.{fits_lazy}
-use Rattle.rules.specs.Facts.RoundKept.{round_kept, round_near}
+use Rattle.rules.proofs.Facts.LazyStart.{fits_lazy}
+use Rattle.rules.proofs.Facts.RoundKept.{round_kept, round_near}
 use Rattle.rules.specs.Ready.{IsReady}
-use Rattle.rules.specs.Facts.Sums.{all_map}
+use Rattle.rules.proofs.Facts.Sums.{all_map}
 use Rattle.table.specs.Table.{stream_of, due_of, with_release}
 use Rattle.table.specs.Range.{RecordInRange, RecordsInRange, AreNear}
 use Rattle.table.specs.Changes.{sent}

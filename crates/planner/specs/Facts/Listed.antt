@@ -10,8 +10,8 @@ use Rattle.basics.specs.Limits.{largest_id}
 use Rattle.basics.specs.OneTo.{OneTo}
 use Rattle.rules.specs.Streams.{Stream}
 use Rattle.rules.specs.Slots.{slots}
-use Rattle.rules.specs.Facts.Slots.{IsChoice}
-use Rattle.rules.specs.Facts.RoundKept.{round_choice}
+use Rattle.rules.proofs.Facts.Slots.{IsChoice}
+use Rattle.rules.proofs.Facts.RoundKept.{round_choice}
 use Rattle.table.specs.Facts.Streams.{all_streams}
 use Rattle.messages.specs.Waiting.{IsMessage}
 use Rattle.state.specs.Content.{Content, slots_of, streams_in, now_of, cap_of}

@@ -16,10 +16,10 @@ use Rattle.basics.specs.Limits.{last_start, longest_period, key_span}
 use Rattle.rules.specs.Streams.{Stream, packet, IsTable}
 use Rattle.rules.specs.Demand.{DueAfter}
 use Rattle.rules.specs.Slots.{may_ride, riders, in_order, slots}
-use Rattle.rules.specs.Facts.Sums.{all_map, fits_due_after}
-use Rattle.rules.specs.Facts.LazyStart.{lazy_fits}
-use Rattle.rules.specs.Facts.Slots.{IsChoice, in_order_perm}
-use Rattle.rules.specs.Facts.RoundKept.{served_iff, round_choice}
+use Rattle.rules.proofs.Facts.Sums.{all_map, fits_due_after}
+use Rattle.rules.proofs.Facts.LazyStart.{lazy_fits}
+use Rattle.rules.proofs.Facts.Slots.{IsChoice, in_order_perm}
+use Rattle.rules.proofs.Facts.RoundKept.{served_iff, round_choice}
 use Rattle.table.specs.Table.{stream_of, due_of}
 use Rattle.table.specs.Changes.{Ascending, sent}
 use Rattle.table.specs.Facts.Streams.{seen}

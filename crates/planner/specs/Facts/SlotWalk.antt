@@ -11,8 +11,8 @@ use Rattle.std.proofs.Math.Decide.{dec_le}
 use Rattle.rules.specs.Streams.{Stream, due, IsTable}
 use Rattle.rules.specs.Demand.{DueAfter}
 use Rattle.rules.specs.Slots.{riders, in_order, slots}
-use Rattle.rules.specs.Facts.Slots.{in_order_perm, rider_iff}
-use Rattle.rules.specs.Facts.SlotOrder.{line_in_order}
+use Rattle.rules.proofs.Facts.Slots.{in_order_perm, rider_iff}
+use Rattle.rules.proofs.Facts.SlotOrder.{line_in_order}
 use Rattle.table.specs.Facts.Streams.{seen, seen_from}
 use Rattle.table.specs.Table.{stream_of, as_streams}
 use Rattle.table.specs.declared.Record.{Record}

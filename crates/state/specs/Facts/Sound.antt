@@ -5,10 +5,10 @@ use Rattle.std.proofs.Math.Nat.{∣_prop}
 use Rattle.std.proofs.Math.Bridge.{le_prop}
 use Rattle.rules.specs.Streams.{Stream, due, WellFormed, IsTable}
 use Rattle.rules.specs.Demand.{DueAfter, IsLazyStart}
-use Rattle.rules.specs.Facts.Sums.{well_formed_prop, start_rule_fits}
+use Rattle.rules.proofs.Facts.Sums.{well_formed_prop, start_rule_fits}
 use Rattle.rules.specs.Ready.{AllWellFormed, Fits, IsBusy, IsReady}
-use Rattle.rules.specs.Facts.Busy.{frame_busy_under_rule}
-use Rattle.rules.specs.Facts.LazyStart.{lazy_exists}
+use Rattle.rules.proofs.Facts.Busy.{frame_busy_under_rule}
+use Rattle.rules.proofs.Facts.LazyStart.{lazy_exists}
 use Rattle.table.specs.Needs.{CanSearch}
 use Rattle.table.specs.Facts.Streams.{all_streams}
 use Rattle.state.specs.Content.{Content, content, slots_of, streams_in, now_of, cap_of}

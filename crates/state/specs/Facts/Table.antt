@@ -18,10 +18,10 @@ use Rattle.std.proofs.Math.Bridge.{le_prop}
 use Rattle.std.proofs.Math.Decide.{dec_lt, ℕ_discrete}
 use Rattle.rules.specs.Streams.{Stream, due, WellFormed, IsTable}
 use Rattle.rules.specs.Demand.{demand, future, DueAfter}
-use Rattle.rules.specs.Facts.Sums.{well_formed_prop}
+use Rattle.rules.proofs.Facts.Sums.{well_formed_prop}
 use Rattle.rules.specs.Ready.{AllWellFormed, count_by}
-use Rattle.rules.specs.Facts.CountBy.{count_by_demand, count_by_future, count_by_filter_le}
-use Rattle.rules.specs.Facts.Lists.{filter_halves}
+use Rattle.rules.proofs.Facts.CountBy.{count_by_demand, count_by_future, count_by_filter_le}
+use Rattle.rules.proofs.Facts.Lists.{filter_halves}
 use Rattle.table.specs.Table.{stream_of, as_streams, due_of}
 use Rattle.table.specs.Changes.{HasId, Ascending, put_by_id, without_id}
 use Rattle.table.specs.Facts.Streams.{numbers, as_streams_put, as_streams_without}

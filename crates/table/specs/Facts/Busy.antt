@@ -11,7 +11,7 @@ use Rattle.basics.specs.Limits.{most_slots, longest_frame}
 use Rattle.rules.specs.Streams.{Stream, WellFormed}
 use Rattle.rules.specs.Demand.{demand}
 use Rattle.rules.specs.Ready.{AllWellFormed, IsBusy}
-use Rattle.rules.specs.Facts.Busy.{busy_settles_demand, frame_busy}
+use Rattle.rules.proofs.Facts.Busy.{busy_settles_demand, frame_busy}
 use Rattle.table.specs.Table.{records_of, streams_of, record_at}
 use Rattle.table.specs.Range.{RecordInRange}
 use Rattle.table.specs.Lengths.{CanNarrow, IsNarrow, CanTestDemand, IsBusyLength}

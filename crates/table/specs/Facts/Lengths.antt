@@ -14,9 +14,9 @@ use Rattle.std.proofs.Math.Seq.{get_or-set_other}
 use Rattle.basics.specs.Limits.{places}
 use Rattle.rules.specs.Streams.{Stream}
 use Rattle.rules.specs.Demand.{packets_by}
-use Rattle.rules.specs.Facts.Division.{packets_none, packets_mono, window, ceil_least, counted_iff_due}
+use Rattle.rules.proofs.Facts.Division.{packets_none, packets_mono, window, ceil_least, counted_iff_due}
 use Rattle.rules.specs.Ready.{AllWellFormed, count_by}
-use Rattle.rules.specs.Facts.CountBy.{count_by_one_more, count_by_none, count_by_demand, count_by_most_in}
+use Rattle.rules.proofs.Facts.CountBy.{count_by_one_more, count_by_none, count_by_demand, count_by_most_in}
 use Rattle.table.specs.Table.{stream_of, as_streams, records_of, streams_of, stream_at}
 use Rattle.table.specs.Lengths.{hits, after_hit, hits_before, IsWalk, CanAdvance, IsAdvance}
 use Rattle.table.specs.Sums.{next_after, HasPeriods, AreNext, AreSums}

@@ -9,9 +9,9 @@ use Rattle.basics.specs.Limits.{longest_period, key_span}
 use Rattle.basics.specs.OneTo.{OneTo}
 use Rattle.rules.specs.Streams.{Stream, WellFormed, due}
 use Rattle.rules.specs.Demand.{packets_by, future, ceil, DueAfter}
-use Rattle.rules.specs.Facts.Division.{packets_quotient, ceil_least, ceil_enough}
+use Rattle.rules.proofs.Facts.Division.{packets_quotient, ceil_least, ceil_enough}
 use Rattle.rules.specs.Ready.{count_by, AllWellFormed}
-use Rattle.rules.specs.Facts.Sums.{first_of, rest_of, period_positive, future_counts, future_mono}
+use Rattle.rules.proofs.Facts.Sums.{first_of, rest_of, period_positive, future_counts, future_mono}
 use Rattle.table.specs.Table.{due_of, records_of, streams_of, record_at, stream_at}
 use Rattle.table.specs.Lengths.{CanFindStart, IsNextStart, CanNarrow, IsNarrow, IsWalk, IsAdvance}
 use Rattle.table.specs.Facts.Table.{record_at_mem, stream_at_mem, all_records}

@@ -8,11 +8,11 @@ use Rattle.std.proofs.Math.Decide.{dec_le, dec_lt}
 use native.Mathlib.Omega.{arith}
 use Rattle.rules.specs.Streams.{Stream, due}
 use Rattle.rules.specs.Demand.{future, ceil, IsLazyStart}
-use Rattle.rules.specs.Facts.Division.{ceil_least, ceil_enough}
-use Rattle.rules.specs.Facts.Sums.{fits_start_rule, future_before_all}
+use Rattle.rules.proofs.Facts.Division.{ceil_least, ceil_enough}
+use Rattle.rules.proofs.Facts.Sums.{fits_start_rule, future_before_all}
 use Rattle.rules.specs.Ready.{AllWellFormed, Fits, IsBusy}
-use Rattle.rules.specs.Facts.Busy.{busy_settles_start}
-use Rattle.rules.specs.Facts.LazyStart.{least_of, latest, latest_some, lazy_start, IsFirstDue, lazy_start_is_lazy}
+use Rattle.rules.proofs.Facts.Busy.{busy_settles_start}
+use Rattle.rules.proofs.Facts.LazyStart.{least_of, latest, latest_some, lazy_start, IsFirstDue, lazy_start_is_lazy}
 use Rattle.table.specs.Lengths.{IsNextStart}
 use Rattle.table.specs.Start.{IsLeastOf}
 

@@ -5,7 +5,7 @@ use native.Mathlib.Nat.{mul-le-mul}
 use native.Mathlib.Omega.{arith}
 use Rattle.basics.specs.Limits.{most_slots}
 use Rattle.rules.specs.Demand.{ceil}
-use Rattle.rules.specs.Facts.Division.{ceil_least}
+use Rattle.rules.proofs.Facts.Division.{ceil_least}
 use Rattle.table.specs.Facts.Search.{few_rounds, too_few_rounds}
 use Rattle.table.specs.NoDivision.{NeverDivides, never_divides}
 use Rattle.table.proofs.start.rounds_from.Given as goal

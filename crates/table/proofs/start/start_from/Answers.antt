@@ -7,7 +7,7 @@ use borrow.Author.Rules.{rules}
 use borrow.Kind.Array.{good_length, e_int}
 use Rattle.basics.specs.Limits.{places}
 use Rattle.rules.specs.Demand.{ceil}
-use Rattle.rules.specs.Facts.Division.{div_mono}
+use Rattle.rules.proofs.Facts.Division.{div_mono}
 use Rattle.table.specs.Table.{streams_of}
 use Rattle.table.specs.Lengths.{IsWalk}
 use Rattle.table.specs.Facts.Lengths.{can_advance}

@@ -2,4 +2,3 @@
 pub mod Plans
 pub mod Verdicts
 pub mod Needs
-pub mod Facts

@@ -9,4 +9,3 @@ pub mod Lines
 pub mod Runs
 pub mod Script
 pub mod Reads
-pub mod Facts

@@ -11,4 +11,3 @@ pub mod Mail
 pub mod Packets
 pub mod Foreign
 pub mod Cases
-pub mod Facts

@@ -12,7 +12,7 @@ use Rattle.table.specs.declared.Record.{Record}
 use Rattle.table.specs.Changes.{HasId, decide_id, put_by_id, without_id}
 use Rattle.state.specs.Content.{Content, content, slots_of, frame_of, streams_in, now_of, with_table}
 use Rattle.state.specs.Sound.{Sound}
-use Rattle.state.specs.Decide.{decide_sound}
+use Rattle.state.proofs.Decide.{decide_sound}
 use Rattle.state.specs.declared.Planner.{Planner}
 use Rattle.planner.specs.declared.Offer.{Offer}
 use Rattle.state.specs.declared.Changed.{Changed}

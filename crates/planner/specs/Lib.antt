@@ -4,4 +4,3 @@ pub mod AddRemove
 pub mod Send
 pub mod Round
 pub mod Needs
-pub mod Facts

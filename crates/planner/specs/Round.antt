@@ -9,7 +9,7 @@ use Rattle.rules.specs.Slots.{slots}
 use Rattle.table.specs.Changes.{sent}
 use Rattle.table.specs.declared.Record.{Record}
 use Rattle.state.specs.Content.{slots_of, streams_in, Content, content, with_table, with_last, with_waiting}
-use Rattle.state.specs.Decide.{decide_sound, decide_late}
+use Rattle.state.proofs.Decide.{decide_sound, decide_late}
 use Rattle.planner.specs.AddRemove.{unsound, IsSoundWith}
 use Rattle.state.specs.declared.Planner.{Planner}
 use Rattle.planner.specs.declared.Rounded.{Rounded}

@@ -3,7 +3,7 @@ use mathlib.Core.Path.{◌≡◌, sym, ◌∙◌}
 use Prim.Native.Nat.{ℕ}
 use Rattle.basics.specs.Refusals.{answer_of}
 use Rattle.state.specs.Open.{zeros, open_refusals, IsFresh, IsOpened}
-use Rattle.state.specs.Facts.Open.{range_numbers, open_exact}
+use Rattle.state.proofs.Facts.Open.{range_numbers, open_exact}
 use Rattle.state.specs.Sound.{Sound}
 use Rattle.state.specs.Needs.{HasNumbers}
 use Rattle.state.specs.declared.Planner.{Planner}

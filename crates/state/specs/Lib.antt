@@ -3,7 +3,5 @@
 pub mod Content
 pub mod Sound
 pub mod Start
-pub mod Decide
 pub mod Open
 pub mod Needs
-pub mod Facts

@@ -8,8 +8,8 @@ use borrow.Author.Rules.{rules}
 use Rattle.table.specs.declared.Column.TheVariants.{Period, Deadline, Due}
 use Rattle.table.proofs.Shape.{table_holds}
 use Rattle.checker.specs.Needs.{columns}
-use Rattle.checker.specs.Facts.Checking.{Checking, can_read, none_checked, can_check, rounds_fit, rest_checked, breaks_here, plan_passes}
-use Rattle.checker.specs.Facts.Checking.{front_within, front_some, one_more_checked}
+use Rattle.checker.proofs.Facts.Checking.{Checking, can_read, none_checked, can_check, rounds_fit, rest_checked, breaks_here, plan_passes}
+use Rattle.checker.proofs.Facts.Checking.{front_within, front_some, one_more_checked}
 use Rattle.checker.proofs.find_sound.Statement.{statement}
 use Rattle.checker.proofs.find_sound.Tie as tie
 

@@ -7,7 +7,7 @@ use Rattle.basics.specs.Limits.{most_slots}
 use Rattle.basics.specs.Refusals.{answer_of}
 use Rattle.planner.specs.Round.{round_refusals}
 use Rattle.planner.specs.Needs.{CanChoose}
-use Rattle.planner.specs.Facts.Round.{listed_fits, left_right, round_refused, can_choose, buffer_long, can_serve_all, round_held}
+use Rattle.planner.proofs.Facts.Round.{listed_fits, left_right, round_refused, can_choose, buffer_long, can_serve_all, round_held}
 use borrow.Author.Rules.{rules}
 use Rattle.planner.proofs.round.Statement.{statement}
 use Rattle.planner.proofs.round.Tie as tie

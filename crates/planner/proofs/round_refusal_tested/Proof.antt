@@ -1,7 +1,7 @@
 -- `planner::round_refusal_tested` meets its contract: the tests are the refusals of round, in their order.
 use Prim.Native.Nat.{◌≤◌}
 use native.Mathlib.Omega.{arith}
-use Rattle.planner.specs.Facts.Round.{no_sound_start, too_short, too_late, round_passes}
+use Rattle.planner.proofs.Facts.Round.{no_sound_start, too_short, too_late, round_passes}
 use borrow.Author.Rules.{rules}
 use Rattle.planner.proofs.round_refusal_tested.Statement.{statement}
 use Rattle.planner.proofs.round_refusal_tested.Tie as tie

@@ -14,10 +14,10 @@ use Rattle.table.specs.declared.Record.{Record}
 use Rattle.state.specs.Content.{Content}
 use Rattle.checker.specs.Plans.{HasPacket, StartsInTime, HasRoom}
 use Rattle.checker.specs.Needs.{IsHeaderRule, bare, reached}
-use Rattle.checker.specs.Facts.Numbers.{ids_listed}
-use Rattle.checker.specs.Facts.Fronts.{Whole, round, pairs, as_many, round_read, short_breaks, front_breaks, too_many_break, of_reached, all_three}
-use Rattle.checker.specs.Facts.Slots.{served_as}
-use Rattle.checker.specs.Facts.Fronts.{header_breaks, slots_break, round_passes}
+use Rattle.checker.proofs.Facts.Numbers.{ids_listed}
+use Rattle.checker.proofs.Facts.Fronts.{Whole, round, pairs, as_many, round_read, short_breaks, front_breaks, too_many_break, of_reached, all_three}
+use Rattle.checker.proofs.Facts.Slots.{served_as}
+use Rattle.checker.proofs.Facts.Fronts.{header_breaks, slots_break, round_passes}
 use Rattle.checker.proofs.rounds.check_round.Statement.{statement}
 use Rattle.checker.proofs.rounds.check_round.Tie as tie
 

@@ -4,7 +4,7 @@ use native.Mathlib.Omega.{arith}
 use lib.ListN.{length}
 use borrow.Author.Tests.{not-true, not-false}
 use Rattle.checker.specs.Needs.{OfShown, columns}
-use Rattle.checker.specs.Facts.Slots.{SentTo, none_so_far, can_go_on, one_refused, one_more, all_through}
+use Rattle.checker.proofs.Facts.Slots.{SentTo, none_so_far, can_go_on, one_refused, one_more, all_through}
 use Rattle.checker.proofs.sending.sent_all.Statement.{statement}
 use Rattle.checker.proofs.sending.sent_all.Tie as tie
 

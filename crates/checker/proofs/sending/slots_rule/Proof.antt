@@ -3,7 +3,7 @@ use Prim.Native.Nat.{◌≤◌}
 use native.Mathlib.Omega.{arith}
 use borrow.Author.Tests.{not-true, not-false}
 use Rattle.basics.specs.Facts.Decides.{failed, passed}
-use Rattle.checker.specs.Facts.Slots.{not_served, some_over, none_over}
+use Rattle.checker.proofs.Facts.Slots.{not_served, some_over, none_over}
 use Rattle.checker.proofs.sending.slots_rule.Statement.{statement}
 use Rattle.checker.proofs.sending.slots_rule.Tie as tie
 

@@ -7,7 +7,7 @@ use mir.Syntax.{w16}
 use borrow.Kind.Array.{good_length, e_int}
 use borrow.Author.Rules.{rules}
 use Rattle.command.specs.Text.{letter_R}
-use Rattle.command.specs.Facts.Answers.{Copied, none_copied, one_more_copied, all_copied}
+use Rattle.command.proofs.Facts.Answers.{Copied, none_copied, one_more_copied, all_copied}
 use Rattle.command.proofs.answers.held.Statement.{statement}
 use Rattle.command.proofs.answers.held.Tie as tie
 

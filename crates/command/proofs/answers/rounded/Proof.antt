@@ -1,6 +1,6 @@
 -- `command::answers::rounded` meets its contract: the ids stand in the first n of 64 places.
 use mathlib.Core.Path.{refl}
-use Rattle.command.specs.Facts.Answers.{few_ids}
+use Rattle.command.proofs.Facts.Answers.{few_ids}
 use borrow.Author.Rules.{rules}
 use Rattle.command.proofs.answers.rounded.Statement.{statement}
 use Rattle.command.proofs.answers.rounded.Tie as tie

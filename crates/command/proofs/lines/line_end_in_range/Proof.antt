@@ -5,7 +5,7 @@ use native.Mathlib.Omega.{arith}
 use lib.ListN.{length}
 use borrow.Author.Rules.{rules}
 use Rattle.command.specs.Lines.{NoEnd}
-use Rattle.command.specs.Facts.LineEnds.{none_seen, one_more_seen}
+use Rattle.command.proofs.Facts.LineEnds.{none_seen, one_more_seen}
 use Rattle.command.proofs.lines.line_end_in_range.Statement.{statement}
 use Rattle.command.proofs.lines.line_end_in_range.Tie as tie
 

@@ -1,6 +1,6 @@
 -- `command::lines::run_last_in_range` meets its contract: what is left is answered as one line.
 use native.Mathlib.Omega.{arith}
-use Rattle.command.specs.Facts.Runs.{last_none, last_waits, last_answered}
+use Rattle.command.proofs.Facts.Runs.{last_none, last_waits, last_answered}
 use borrow.Author.Rules.{rules}
 use Rattle.command.proofs.lines.run_last_in_range.Statement.{statement}
 use Rattle.command.proofs.lines.run_last_in_range.Tie as tie

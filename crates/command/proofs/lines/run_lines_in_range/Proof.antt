@@ -2,7 +2,7 @@
 use Prim.Native.Nat.{◌-◌}
 use native.Mathlib.Omega.{arith}
 use borrow.Author.Rules.{rules}
-use Rattle.command.specs.Facts.Runs.{Running, none_run, number_fits, input_done, no_line_left, buffer_full, one_more_run}
+use Rattle.command.proofs.Facts.Runs.{Running, none_run, number_fits, input_done, no_line_left, buffer_full, one_more_run}
 use Rattle.command.specs.declared.lines.Reached.{Reached}
 use Rattle.command.proofs.lines.run_lines_in_range.Statement.{statement}
 use Rattle.command.proofs.lines.run_lines_in_range.Tie as tie

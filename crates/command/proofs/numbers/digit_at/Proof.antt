@@ -3,7 +3,7 @@ use native.Mathlib.Nat.{lt_irrefl}
 use native.Mathlib.Omega.{arith}
 use borrow.Author.Rules.{rules}
 use Rattle.command.specs.Reads.{at_end, before_other}
-use Rattle.command.specs.Facts.Numbers.{no_digit_at}
+use Rattle.command.proofs.Facts.Numbers.{no_digit_at}
 use Rattle.command.proofs.numbers.digit_at.Statement.{statement}
 use Rattle.command.proofs.numbers.digit_at.Tie as tie
 

@@ -8,7 +8,7 @@ use borrow.Author.Tests.{eqb-true, eqb-false}
 use lib.ListN.{length, take}
 use Rattle.command.specs.Text.{IsNumeral}
 use Rattle.command.specs.Reads.{IsDigitAt}
-use Rattle.command.specs.Facts.Numbers.{IsReadTo, none_read, some_read, no_digit, digit_more, leading_zero, too_large}
+use Rattle.command.proofs.Facts.Numbers.{IsReadTo, none_read, some_read, no_digit, digit_more, leading_zero, too_large}
 use Rattle.command.proofs.numbers.read_number.Statement.{statement}
 use Rattle.command.proofs.numbers.read_number.Tie as tie
 

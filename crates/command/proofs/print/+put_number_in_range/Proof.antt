@@ -2,7 +2,7 @@
 use mathlib.Core.Path.{subst, ◌∙◌}
 use Prim.Native.Nat.{ℕ, ◌/◌, ◌<◌}
 use native.Mathlib.Omega.{arith}
-use Rattle.command.specs.Facts.Puts.{put_one_digit, tenth_ends, put_last_digit}
+use Rattle.command.proofs.Facts.Puts.{put_one_digit, tenth_ends, put_last_digit}
 use borrow.Fn.Kinds.{In}
 use borrow.Fn.PlainCycle.{Measures, is, falls, and}
 use Rattle.command.proofs.print.put_number_in_range.Reads as number

@@ -1,6 +1,6 @@
 -- `command::print::put_byte_in_range` meets its contract: one place is set.
 use borrow.Author.Rules.{rules}
-use Rattle.command.specs.Facts.Puts.{put_byte}
+use Rattle.command.proofs.Facts.Puts.{put_byte}
 use Rattle.command.proofs.print.put_byte_in_range.Statement.{statement}
 use Rattle.command.proofs.print.put_byte_in_range.Tie as tie
 

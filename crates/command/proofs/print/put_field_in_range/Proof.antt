@@ -1,6 +1,6 @@
 -- `command::print::put_field_in_range` meets its contract: the number is put from where the comma ends.
 use native.Mathlib.Omega.{arith}
-use Rattle.command.specs.Facts.Puts.{byte_ends, put_field}
+use Rattle.command.proofs.Facts.Puts.{byte_ends, put_field}
 use borrow.Author.Rules.{rules}
 use Rattle.command.proofs.print.put_field_in_range.Statement.{statement}
 use Rattle.command.proofs.print.put_field_in_range.Tie as tie

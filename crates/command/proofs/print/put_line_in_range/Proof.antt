@@ -8,7 +8,7 @@ use lib.Seq.{take_all}
 use Rattle.command.specs.Text.{IsFields}
 use Rattle.command.specs.Text.IsFields.{none}
 use Rattle.command.specs.Puts.{IsPut}
-use Rattle.command.specs.Facts.Puts.{byte_ends, put_none, put_field_more, put_line}
+use Rattle.command.proofs.Facts.Puts.{byte_ends, put_none, put_field_more, put_line}
 use Rattle.command.proofs.print.put_line_in_range.Statement.{statement}
 use Rattle.command.proofs.print.put_line_in_range.Tie as tie
 

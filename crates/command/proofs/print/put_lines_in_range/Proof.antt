@@ -2,7 +2,7 @@
 use native.Mathlib.Omega.{arith}
 use borrow.Author.Rules.{rules}
 use lib.ListN.{length-take}
-use Rattle.command.specs.Facts.Puts.{put_one_line}
+use Rattle.command.proofs.Facts.Puts.{put_one_line}
 use Rattle.command.proofs.Shape.{lines_shape}
 use Rattle.command.proofs.print.put_lines_in_range.Statement.{statement}
 use Rattle.command.proofs.print.put_lines_in_range.Tie as tie

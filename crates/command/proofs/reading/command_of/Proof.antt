@@ -3,7 +3,7 @@ use mathlib.Core.Logic.{⊎_elim}
 use native.Mathlib.Nat.{lt_irrefl}
 use native.Mathlib.Omega.{arith}
 use borrow.Author.Tests.{not-true, not-false, eqb-true, eqb-false}
-use Rattle.command.specs.Facts.Commands.{bad_fields, line_of_four, line_of_one, line_of_none, other-line}
+use Rattle.command.proofs.Facts.Commands.{bad_fields, line_of_four, line_of_one, line_of_none, other-line}
 use borrow.Author.Rules.{rules}
 use Rattle.command.proofs.reading.command_of.Statement.{statement}
 use Rattle.command.proofs.reading.command_of.Tie as tie

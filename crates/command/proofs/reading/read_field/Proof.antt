@@ -5,7 +5,7 @@ use native.Mathlib.Omega.{arith}
 use borrow.Author.Rules.{rules}
 use lib.ListN.{length, take, drop, length-drop}
 use lib.Seq.{take_all}
-use Rattle.command.specs.Facts.Fields.{field_read}
+use Rattle.command.proofs.Facts.Fields.{field_read}
 use Rattle.command.proofs.reading.read_field.Statement.{statement}
 use Rattle.command.proofs.reading.read_field.Tie as tie
 

@@ -6,7 +6,7 @@ use borrow.Author.Rules.{rules}
 use lib.ListN.{length, set}
 use Rattle.command.specs.Reads.{IsReadField}
 use Rattle.command.specs.declared.numbers.Number.TheVariants.{Value}
-use Rattle.command.specs.Facts.Lines.{IsReadUpTo, not_good, is_good, at_first, field_more, all_read, too_many, field_fails}
+use Rattle.command.proofs.Facts.Lines.{IsReadUpTo, not_good, is_good, at_first, field_more, all_read, too_many, field_fails}
 use Rattle.command.proofs.reading.read_fields.Statement.{statement}
 use Rattle.command.proofs.reading.read_fields.Tie as tie
 

@@ -1,7 +1,7 @@
 -- `command::script::closed` meets its contract: B = 0 is refused.
 use native.Mathlib.Nat.{lt_irrefl}
 use Rattle.state.specs.Open.{zeros}
-use Rattle.state.specs.Facts.Open.{open_exact}
+use Rattle.state.proofs.Facts.Open.{open_exact}
 use borrow.Author.Rules.{rules}
 use Rattle.command.proofs.script.closed.Statement.{statement}
 use Rattle.command.proofs.script.closed.Tie as tie

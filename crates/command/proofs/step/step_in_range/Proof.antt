@@ -1,6 +1,6 @@
 -- `command::step::step_in_range` meets its contract: what the line says is answered, and the answer is written.
 use mathlib.Core.Path.{refl}
-use Rattle.command.specs.Facts.Answers.{answered_few}
+use Rattle.command.proofs.Facts.Answers.{answered_few}
 use borrow.Author.Rules.{rules}
 use Rattle.command.proofs.step.step_in_range.Statement.{statement}
 use Rattle.command.proofs.step.step_in_range.Tie as tie

@@ -1,5 +1,5 @@
 -- `planner::offers::add_offer` meets its contract: refused, it hands the planner back; else the table that was tested is stored.
-use Rattle.planner.specs.Facts.Changes.{change_refused, change_done}
+use Rattle.planner.proofs.Facts.Changes.{change_refused, change_done}
 use borrow.Author.Rules.{rules}
 use Rattle.planner.proofs.offers.add_offer.Statement.{statement}
 use Rattle.planner.proofs.offers.add_offer.Tie as tie

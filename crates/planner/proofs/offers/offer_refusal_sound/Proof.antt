@@ -13,8 +13,8 @@ use Rattle.basics.specs.OneTo.{OneTo}
 use Rattle.basics.specs.Limits.{longest_period}
 use Rattle.state.specs.Content.{content}
 use Rattle.planner.specs.AddRemove.{bad_id, id_held, full, bad_period, bad_deadline}
-use Rattle.state.specs.Facts.Sound.{can_search}
-use Rattle.planner.specs.Facts.Add.{is_full, has_room}
+use Rattle.state.proofs.Facts.Sound.{can_search}
+use Rattle.planner.proofs.Facts.Add.{is_full, has_room}
 use Rattle.state.proofs.Shape.{planner_shape}
 use borrow.Author.Rules.{rules}
 use Rattle.planner.proofs.offers.offer_refusal_sound.Statement.{statement}

@@ -6,7 +6,7 @@ use Rattle.rules.specs.Demand.{DemandRule}
 use Rattle.table.specs.Lengths.{IsNextStart}
 use Rattle.state.specs.Content.{content, now_of, slots_of, streams_in}
 use Rattle.planner.specs.AddRemove.{added}
-use Rattle.planner.specs.Facts.Add.{can_test_table, can_find_table, busy_of_added, start_of_added}
+use Rattle.planner.proofs.Facts.Add.{can_test_table, can_find_table, busy_of_added, start_of_added}
 use borrow.Author.Rules.{rules}
 use Rattle.planner.proofs.offers.rule_refusal_sound.Statement.{statement}
 use Rattle.planner.proofs.offers.rule_refusal_sound.Tie as tie

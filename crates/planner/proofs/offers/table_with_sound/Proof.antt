@@ -1,5 +1,5 @@
 -- `planner::offers::table_with_sound` meets its contract: where none of 6 to 11 applies a place is free.
-use Rattle.planner.specs.Facts.Add.{can_put}
+use Rattle.planner.proofs.Facts.Add.{can_put}
 use Rattle.state.proofs.Shape.{planner_shape}
 use borrow.Author.Rules.{rules}
 use Rattle.planner.proofs.offers.table_with_sound.Statement.{statement}

@@ -1,7 +1,7 @@
 -- `planner::offers::test_offer` meets its contract: where 5 to 11 do not give the answer, 12 and 13 do, tested on the table handed back.
 use mathlib.Core.Path.{sym, ◌∙◌}
 use Rattle.planner.specs.Needs.{CanTest}
-use Rattle.planner.specs.Facts.Add.{by_offer, can_test, by_rules, can_add}
+use Rattle.planner.proofs.Facts.Add.{by_offer, can_test, by_rules, can_add}
 use borrow.Author.Rules.{rules}
 use Rattle.planner.proofs.offers.test_offer.Statement.{statement}
 use Rattle.planner.proofs.offers.test_offer.Tie as tie

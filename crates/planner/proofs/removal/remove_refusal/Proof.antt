@@ -4,7 +4,7 @@ use Rattle.basics.specs.Facts.Decides.{failed, passed}
 use Rattle.basics.specs.Facts.Refusals.{first_is_answer}
 use Rattle.basics.specs.Refusals.{none, here, later}
 use Rattle.state.specs.Sound.{Sound}
-use Rattle.state.specs.Facts.Sound.{can_search}
+use Rattle.state.proofs.Facts.Sound.{can_search}
 use borrow.Author.Rules.{rules}
 use Rattle.planner.proofs.removal.remove_refusal.Statement.{statement}
 use Rattle.planner.proofs.removal.remove_refusal.Tie as tie

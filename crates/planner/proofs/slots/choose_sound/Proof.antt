@@ -8,7 +8,7 @@ use lib.ListN.{length}
 use Rattle.basics.specs.Places.{IsPlaceAmong}
 use Rattle.basics.specs.Limits.{places, most_slots}
 use Rattle.state.specs.Content.{content, slots_of}
-use Rattle.planner.specs.Facts.Choosing.{Visited, can_walk, can_look_up, none_visited, full_chosen, all_chosen, still_room, one_more_taken_in, one_more_skipped_in}
+use Rattle.planner.proofs.Facts.Choosing.{Visited, can_walk, can_look_up, none_visited, full_chosen, all_chosen, still_room, one_more_taken_in, one_more_skipped_in}
 use Rattle.state.proofs.Shape.{planner_shape}
 use Rattle.planner.proofs.slots.choose_sound.Statement.{statement}
 use Rattle.planner.proofs.slots.choose_sound.Tie as tie

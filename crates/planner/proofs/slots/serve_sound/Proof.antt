@@ -9,7 +9,7 @@ use Rattle.state.specs.Content.{content}
 use Rattle.planner.specs.AddRemove.{IsSoundWith}
 use Rattle.planner.specs.Round.{left_at}
 use Rattle.planner.specs.Needs.{CanServeAll}
-use Rattle.planner.specs.Facts.Serving.{Serving, none_served, chosen_below, row_below, can_send, one_more_served, can_move_all, all_served}
+use Rattle.planner.proofs.Facts.Serving.{Serving, none_served, chosen_below, row_below, can_send, one_more_served, can_move_all, all_served}
 use Rattle.state.proofs.Shape.{planner_shape}
 use Rattle.planner.proofs.slots.serve_sound.Statement.{statement}
 use Rattle.planner.proofs.slots.serve_sound.Tie as tie

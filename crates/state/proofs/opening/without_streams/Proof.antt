@@ -1,5 +1,5 @@
 -- `planner::opening::without_streams` meets its contract: the queue that `queue::empty` gives is the empty one, nothing waits, and every place of the table has zeros.
-use Rattle.state.specs.Facts.Open.{with_empty_queue}
+use Rattle.state.proofs.Facts.Open.{with_empty_queue}
 use borrow.Author.Rules.{rules}
 use Rattle.state.proofs.opening.without_streams.Statement.{statement}
 use Rattle.state.proofs.opening.without_streams.Tie as tie

@@ -3,7 +3,7 @@
 use mathlib.Core.Path.{◌≡◌}
 use lib.ListN.{length}
 use Rattle.table.proofs.Shape.{table_shape}
-use Rattle.state.specs.Facts.SoundTest.{can_read_dues, can_read_releases, can_file, filed_exactly}
+use Rattle.state.proofs.Facts.SoundTest.{can_read_dues, can_read_releases, can_file, filed_exactly}
 use borrow.Author.Rules.{rules}
 use Rattle.state.proofs.soundness.is_filed_in_range.Statement.{statement}
 use Rattle.state.proofs.soundness.is_filed_in_range.Tie as tie

@@ -7,7 +7,7 @@ use Rattle.basics.specs.Limits.{most_waiting}
 use Rattle.basics.specs.Refusals.{answer_of}
 use Rattle.messages.specs.Facts.Waiting.{waiting_length, waiting_members, waiting_from}
 use Rattle.state.specs.Open.{open_refusals}
-use Rattle.state.specs.Facts.Open.{open_exact}
+use Rattle.state.proofs.Facts.Open.{open_exact}
 use Rattle.state.proofs.Shape.{waiting_shape}
 use borrow.Author.Rules.{rules}
 use Rattle.state.proofs.soundness.numbers_in_range.Statement.{statement}

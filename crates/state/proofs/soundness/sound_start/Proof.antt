@@ -3,8 +3,8 @@ use Prim.Native.Nat.{◌+◌, ◌≤◌}
 use native.Mathlib.Omega.{arith}
 use Rattle.basics.specs.Facts.Decides.{failed, passed}
 use Rattle.table.specs.Range.{TableInRange}
-use Rattle.state.specs.Facts.Open.{NumbersInRange, open_exact}
-use Rattle.state.specs.Facts.SoundTest.{no_start, table_in_range, can_compare, can_test_demand, can_find_start, start_found}
+use Rattle.state.proofs.Facts.Open.{NumbersInRange, open_exact}
+use Rattle.state.proofs.Facts.SoundTest.{no_start, table_in_range, can_compare, can_test_demand, can_find_start, start_found}
 use Rattle.state.specs.Needs.{HasNumbers}
 use Rattle.state.proofs.Refused.{has_numbers}
 use borrow.Author.Rules.{rules}

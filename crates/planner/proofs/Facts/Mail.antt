@@ -1,0 +1,106 @@
+-- The messages that wait: what a sound planner holds stays sound with one more, and with the first ones gone.
+use Rattle.std.specs.Prelude.{◌≡◌, refl, ℕ, ◌≤◌, ◌<◌, length, take, drop}
+use Rattle.std.proofs.Common.{subst, lt_irrefl, arith, length-append, length-drop, take-append-drop}
+use Rattle.std.proofs.Math.Path.{subst⁻¹}
+use Rattle.std.proofs.Math.Logic.Or
+use Rattle.std.proofs.Math.Logic.Dec.{and as Dec-and, not-not as Dec-not_not}
+use mathlib.Core.HLevel.{×_prop}
+use mathlib.Core.List.{List, Mem, [], ◌∷◌, ◌++◌, mem-append, mem-append_right, eq-or-mem_of_mem-cons, not-mem-nil}
+use Rattle.std.proofs.Math.Bridge.{le_prop}
+use Rattle.std.proofs.Math.Decide.{ℕ_discrete}
+use Rattle.basics.specs.Limits.{most_waiting}
+use Rattle.basics.specs.Refusals.{answer_of}
+use Rattle.basics.specs.Facts.Refusals.{answer_zero}
+use Rattle.messages.specs.Waiting.{IsMessage, decide_message, waiting_of}
+use Rattle.messages.specs.Needs.{HasWaiting}
+use Rattle.messages.specs.Facts.Waiting.{waiting_length}
+use Rattle.messages.specs.declared.Waiting.{Waiting}
+use Rattle.state.specs.Content.{Content, content, with_waiting}
+use Rattle.state.specs.Sound.{MailInRange, ContentSound, Sound}
+use Rattle.state.proofs.Decide.{decide_sound}
+use Rattle.planner.specs.AddRemove.{unsound, IsSoundWith}
+use Rattle.planner.specs.Send.{no_message, mail_full, send_refusals, posted}
+use Rattle.state.proofs.Facts.Open.{range_numbers, in_range_by_numbers}
+use Rattle.planner.specs.Needs.{CanSend, with_list}
+use Rattle.state.specs.declared.Planner.{Planner}
+
+-- with the first ones gone, the others are in range
+pub first_gone : {on : ℕ} {ns : List ℕ} → MailInRange on ns → (k : ℕ) → MailInRange on (drop k ns)
+first_gone {on} {ns} mail k =
+    record {
+      few = omega (arith, length-drop k ns, mail.few);
+      range = λ n m. mail.range n (subst (λ (l : List ℕ). Mem n l) (take-append-drop k ns) (mem-append_right (take k ns) m));
+    }
+
+-- with a message more behind them, all are
+one_more : {ns : List ℕ} {n : ℕ} → MailInRange 1 ns → length ns < most_waiting → IsMessage n → MailInRange 1 (ns ++ (n ∷ []))
+one_more {ns} {n} mail free is =
+    record {
+      few = omega (arith, length-append ns (n ∷ []), free);
+      range = λ x m. Or.elim (×_prop le_prop le_prop) (mem-append.0 m) (mail.range x)
+          (λ last. Or.elim (×_prop le_prop le_prop) (eq-or-mem_of_mem-cons last)
+          (λ same. subst⁻¹ (λ (y : ℕ). IsMessage y) same is) (λ none. absurd (not-mem-nil none)));
+    }
+
+-- what a planner holds is sound with other messages that are in range ..
+pub waits_sound : {h : Content} → ContentSound h → {ns : List ℕ} → MailInRange h.setting.messages ns → ContentSound (with_waiting h ns)
+waits_sound sound mail =
+    let range = sound.in_range in
+    record {
+      in_range = in_range_by_numbers (range_numbers range) range.at_most range.records mail;
+      near = sound.near;
+      demand_rule = sound.demand_rule;
+      start_rule = sound.start_rule;
+    }
+
+-- .. and so is the planner
+pub waits_with : {h : Content} {p : Planner} → IsSoundWith h p → {ns : List ℕ} {w : Waiting} → HasWaiting ns w → MailInRange h.setting.messages ns
+    → IsSoundWith (with_waiting h ns) (with_list p w)
+waits_with {h} {p} is {ns} {w} has mail =
+    let holds : content (with_list p w) ≡ with_waiting h ns = λ i. with_waiting (is.holds i) (has.numbers i) in
+    record {
+      holds = holds;
+      sound =
+          record {
+            count = is.sound.count;
+            waiting_count = has.count;
+            content_sound = subst⁻¹ ContentSound holds (waits_sound (subst ContentSound is.holds is.sound.content_sound) mail);
+            queue_sound = is.sound.queue_sound;
+            files = is.sound.files;
+          };
+    }
+
+-- where send refuses nothing, the planner is sound ..
+pub sent_is_sound : (p : Planner) (n : ℕ) → answer_of (send_refusals p n) ≡ 0 → Sound p
+sent_is_sound p n none =
+    (Dec-not_not (decide_sound p)).0
+    (answer_zero (unsound p) (no_message n (content p) ∷ mail_full (content p) ∷ []) (λ e. lt_irrefl 0 (omega (arith, e))) none).0
+
+-- .. messages are on, the number is one of them and a place is free
+pub send_passed : (p : Planner) (n : ℕ) → length p.waiting.numbers ≡ most_waiting → answer_of (send_refusals p n) ≡ 0 → CanSend p n
+send_passed p n long none =
+    let h = content p in
+    let is_sound = answer_zero (unsound p) (no_message n h ∷ mail_full h ∷ []) (λ e. lt_irrefl 0 (omega (arith, e))) none in
+    let is_message = answer_zero (no_message n h) (mail_full h ∷ []) (λ e. lt_irrefl 0 (omega (arith, e))) is_sound.1 in
+    let has_place = answer_zero (mail_full h) [] (λ e. lt_irrefl 0 (omega (arith, e))) is_message.1 in
+    let sound = (Dec-not_not (decide_sound p)).0 is_sound.0 in
+    let both = (Dec-not_not (Dec-and (decide_message n) (ℕ_discrete p.setting.messages 1))).0 is_message.0 in
+    record {
+      sound = sound;
+      message = both.0;
+      on = both.1;
+      place_free = below has_place.0 (waiting_length p.waiting long sound.waiting_count);
+    }
+  where
+    below : (most_waiting ≤ length (waiting_of p.waiting) → ⊥) → length (waiting_of p.waiting) ≡ p.waiting.count → p.waiting.count < most_waiting
+    below few same = omega (arith, same, few)
+
+-- the planner in which the number waits too
+pub posted_with : {p : Planner} {n : ℕ} → length p.waiting.numbers ≡ most_waiting → CanSend p n → {w : Waiting}
+    → HasWaiting (waiting_of p.waiting ++ (n ∷ [])) w → IsSoundWith (posted (content p) n) (with_list p w)
+posted_with {p} {n} long can has =
+    let mail = can.sound.content_sound.in_range.mail in
+    waits_with (record { holds = refl; sound = can.sound }) has
+    (subst⁻¹ (λ (on : ℕ). MailInRange on (waiting_of p.waiting ++ (n ∷ []))) can.on
+    (one_more (subst (λ (on : ℕ). MailInRange on (waiting_of p.waiting)) can.on mail)
+    (omega (arith, waiting_length p.waiting long can.sound.waiting_count, can.place_free)) can.message))

@@ -1,2 +1,1 @@
 -- Laws that the proofs of several functions cite.
-pub mod Facts

@@ -4,3 +4,4 @@ pub mod Transcript
 pub mod Session
 pub mod Opened
 pub mod Needs
+pub mod Facts

@@ -1,7 +1,7 @@
 -- `console::answer_last_in_range` meets its contract: what is left is run as a line (`ran_last`).
 use mathlib.Core.Path.{sym}
 use borrow.Author.Rules.{rules}
-use Rattle.console.proofs.Facts.Session.{all_there, can_run, ran_last}
+use Rattle.console.specs.Facts.Session.{all_there, can_run, ran_last}
 use Rattle.console.proofs.answer_last_in_range.Statement.{statement}
 use Rattle.console.proofs.answer_last_in_range.Tie as tie
 

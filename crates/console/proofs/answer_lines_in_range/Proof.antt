@@ -1,7 +1,7 @@
 -- `console::answer_lines_in_range` meets its contract: running lines answers them (`ran_answered`).
 use mathlib.Core.Path.{sym}
 use borrow.Author.Rules.{rules}
-use Rattle.console.proofs.Facts.Session.{all_there, can_run, ran_answered}
+use Rattle.console.specs.Facts.Session.{all_there, can_run, ran_answered}
 use Rattle.console.proofs.answer_lines_in_range.Statement.{statement}
 use Rattle.console.proofs.answer_lines_in_range.Tie as tie
 

@@ -1,6 +1,6 @@
 -- `console::keep_rest_in_range` meets its contract: the first 64 bytes at hand stand for all (`moved_kept`).
 use borrow.Author.Rules.{rules}
-use Rattle.console.proofs.Facts.Session.{moved_kept}
+use Rattle.console.specs.Facts.Session.{moved_kept}
 use Rattle.console.proofs.keep_rest_in_range.Statement.{statement}
 use Rattle.console.proofs.keep_rest_in_range.Tie as tie
 

@@ -6,7 +6,7 @@ use native.Mathlib.Omega.{arith}
 use lib.ListN.{length, take, drop, length-set}
 use borrow.Author.Rules.{rules}
 use Rattle.console.specs.Transcript.{most_kept}
-use Rattle.console.proofs.Facts.Moves.{one_moved}
+use Rattle.console.specs.Facts.Moves.{one_moved}
 use Rattle.console.proofs.move_to_front_in_range.Statement.{statement}
 use Rattle.console.proofs.move_to_front_in_range.Tie as tie
 

@@ -4,7 +4,7 @@ use Prim.Native.Nat.{◌-◌, ◌≤◌}
 use native.Mathlib.Omega.{arith}
 use lib.ListN.{length}
 use borrow.Rule.Slice.PartMut.{take_put}
-use Rattle.console.proofs.Facts.Session.{kept_refilled, within_part}
+use Rattle.console.specs.Facts.Session.{kept_refilled, within_part}
 use borrow.Author.Rules.{rules}
 use Rattle.console.proofs.refilled_in_range.Statement.{statement}
 use Rattle.console.proofs.refilled_in_range.Tie as tie

@@ -3,7 +3,7 @@ use mathlib.Core.Path.{◌≡◌, sym, ◌∙◌}
 use lib.ListN.{length}
 use borrow.Author.Rules.{rules}
 use Rattle.console.specs.Session.{buffer_places}
-use Rattle.console.proofs.Facts.Turns.{Going, begun_going, can_turn, gone_on, can_finish}
+use Rattle.console.specs.Facts.Turns.{Going, begun_going, can_turn, gone_on, can_finish}
 use Rattle.console.proofs.run.Statement.{statement}
 use Rattle.console.proofs.run.Tie as tie
 

@@ -6,7 +6,7 @@ use lib.ListN.{length}
 use lib.Seq.{length-take-le}
 use borrow.Author.Tests.{leb-true}
 use Rattle.command.specs.Puts.{room}
-use Rattle.console.proofs.Facts.Session.{can_refill, refilled_turned, stayed_turned}
+use Rattle.console.specs.Facts.Session.{can_refill, refilled_turned, stayed_turned}
 use borrow.Author.Rules.{rules}
 use Rattle.console.proofs.turn_in_range.Statement.{statement}
 use Rattle.console.proofs.turn_in_range.Tie as tie

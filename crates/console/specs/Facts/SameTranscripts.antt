@@ -10,7 +10,7 @@ use Rattle.alike.proofs.Facts.Twins.{equal_are_twins}
 use Rattle.command.proofs.Facts.SameAnswers.{same_answer}
 use Rattle.console.specs.Transcript.{HasNoEnd, Transcript, AreAnswered, Told, ToldAll}
 use Rattle.console.specs.Transcript.Transcript.{none, next}
-use Rattle.console.proofs.Facts.LineEnds.{no_end_second}
+use Rattle.console.specs.Facts.LineEnds.{no_end_second}
 
 -- bytes have one first line
 same_first_line : (line line' rest rest' : List ℕ) → HasNoEnd line → HasNoEnd line' → line ++ (10 ∷ rest) ≡ line' ++ (10 ∷ rest')

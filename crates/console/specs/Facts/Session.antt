@@ -10,9 +10,9 @@ use Rattle.command.specs.Runs.{CanRun, HasRun, HasRunLast}
 use Rattle.command.proofs.Facts.Puts.{put_written}
 use Rattle.command.specs.declared.lines.Reached.{Reached}
 use Rattle.console.specs.Transcript.{most_kept, HasNoEnd, Told, ToldAll}
-use Rattle.console.proofs.Facts.LineEnds.{no_end_first, rest_no_end}
-use Rattle.console.proofs.Facts.Moves.{first_kept}
-use Rattle.console.proofs.Facts.Transcript.{read_told, cut_told, step_answer, run_told, none_left, last_told}
+use Rattle.console.specs.Facts.LineEnds.{no_end_first, rest_no_end}
+use Rattle.console.specs.Facts.Moves.{first_kept}
+use Rattle.console.specs.Facts.Transcript.{read_told, cut_told, step_answer, run_told, none_left, last_told}
 use Rattle.console.specs.Session.{buffer_places, at_hand, HasTold, InBounds}
 use Rattle.console.specs.Needs.{CanAnswer, HasAnswered, HasAnsweredLast}
 use Rattle.console.specs.Session.{CanKeep, CanRefill, delivered, IsTurned}

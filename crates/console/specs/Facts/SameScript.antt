@@ -12,9 +12,9 @@ use Rattle.command.proofs.Facts.Puts.{put_written}
 use Rattle.command.specs.declared.lines.Reached.{Reached}
 use Rattle.console.specs.Transcript.{HasNoEnd, Told, ToldAll}
 use Rattle.console.specs.Transcript.Transcript.{none}
-use Rattle.console.proofs.Facts.LineEnds.{rest_no_end}
-use Rattle.console.proofs.Facts.Transcript.{step_answer, run_told, none_left, last_told}
-use Rattle.console.proofs.Facts.SameTranscripts.{same_output}
+use Rattle.console.specs.Facts.LineEnds.{rest_no_end}
+use Rattle.console.specs.Facts.Transcript.{step_answer, run_told, none_left, last_told}
+use Rattle.console.specs.Facts.SameTranscripts.{same_output}
 
 -- at the beginning nothing is told
 begun : (script : List ℕ) (p : Planner) (n from : ℕ) → IsFresh zeros 0 p → n ≡ 0 → from ≡ 0 → Told script [] p n (drop from script)

@@ -16,7 +16,7 @@ use Rattle.command.specs.declared.lines.Reached.{Reached}
 use Rattle.command.specs.declared.step.Step.{Step}
 use Rattle.console.specs.Transcript.{most_kept, HasNoEnd, IsCut, Told, ToldAll}
 use Rattle.console.specs.Transcript.Transcript.{next}
-use Rattle.console.proofs.Facts.LineEnds.{no_end_first, no_end_second, no_end_both, before_the_end, split_line, line_no_end}
+use Rattle.console.specs.Facts.LineEnds.{no_end_first, no_end_second, no_end_both, before_the_end, split_line, line_no_end}
 
 -- two lines of 64 bytes or more say the same: nothing
 both_long : (line other : List ℕ) (c : Command) → most_kept ≤ length line → most_kept ≤ length other → Says line c → Says other c

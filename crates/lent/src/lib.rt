@@ -20,8 +20,7 @@ pub struct Held {
 }
 
 // Opens the lent planner, whatever it held; the answer is that of open.
-#[unsafe(no_mangle)]
-pub extern "C" fn planner_open(
+pub fn planner_open(
     p: &mut Planner,
     slots: u32,
     frame: u32,
@@ -37,8 +36,7 @@ pub extern "C" fn planner_open(
 }
 
 // Adds a stream to the lent planner; the answer is that of add.
-#[unsafe(no_mangle)]
-pub extern "C" fn planner_add(
+pub fn planner_add(
     p: &mut Planner,
     id: u32,
     start: u32,
@@ -55,8 +53,7 @@ pub extern "C" fn planner_add(
 }
 
 // Takes a stream out of the lent planner; the answer is that of remove.
-#[unsafe(no_mangle)]
-pub extern "C" fn planner_remove(p: &mut Planner, id: u32) -> u32
+pub fn planner_remove(p: &mut Planner, id: u32) -> u32
     ensures { IsLentRemove p.old id p.new result }
 {
     let removed = planner::remove(*p, id);
@@ -67,8 +64,7 @@ pub extern "C" fn planner_remove(p: &mut Planner, id: u32) -> u32
 }
 
 // Has a message wait in the lent planner; the answer is that of send.
-#[unsafe(no_mangle)]
-pub extern "C" fn planner_send(p: &mut Planner, number: u32) -> u32
+pub fn planner_send(p: &mut Planner, number: u32) -> u32
     ensures { IsLentSend p.old number p.new result }
 {
     let sent = planner::send(*p, number);
@@ -79,8 +75,7 @@ pub extern "C" fn planner_send(p: &mut Planner, number: u32) -> u32
 }
 
 // Holds a round of the lent planner, and writes its ids and messages into the buffer; the answer is that of round.
-#[unsafe(no_mangle)]
-pub extern "C" fn planner_round(p: &mut Planner, buffer: &mut [u16]) -> Held
+pub fn planner_round(p: &mut Planner, buffer: &mut [u16]) -> Held
     ensures { IsLentRound p.old buffer.old buffer.new p.new result }
 {
     let rounded = planner::round(*p, buffer);
@@ -95,24 +90,21 @@ pub extern "C" fn planner_round(p: &mut Planner, buffer: &mut [u16]) -> Held
 }
 
 // Checks a plan that somebody else made from the lent planner on, and stores nothing in either; the answer is that of check.
-#[unsafe(no_mangle)]
-pub extern "C" fn planner_check(p: &Planner, plan: &[u8]) -> Verdict
+pub fn planner_check(p: &Planner, plan: &[u8]) -> Verdict
     ensures { IsLentCheck p.now plan.now result }
 {
     checker::check(*p, plan)
 }
 
 // Annex 7.36: how long the part is that `planner::filled` hands back: C takes that many places from the front of its own buffer.
-#[unsafe(no_mangle)]
-pub extern "C" fn planner_filled(buffer: &[u16], n: u32) -> usize
+pub fn planner_filled(buffer: &[u16], n: u32) -> usize
     ensures { result ≡ length (take n buffer.now) }
 {
     planner::filled(buffer, n).len()
 }
 
 // Annex 7.40: the number of this version, so that a host can refuse a library of another.
-#[unsafe(no_mangle)]
-pub extern "C" fn planner_version() -> u32
+pub fn planner_version() -> u32
     ensures { result ≡ version }
 {
     basics::VERSION

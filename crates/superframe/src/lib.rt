@@ -74,8 +74,7 @@ fn pack_within_limit(answer: u32, value: u32) -> u32
 }
 
 // Annex 9.1 to 9.5: 18 if a period is not 1 to 240, else 19 if the least common multiple is above 5,040, both with value 0; else that multiple.
-#[unsafe(no_mangle)]
-pub extern "C" fn superframe(periods: &[u8]) -> u32
+pub fn superframe(periods: &[u8]) -> u32
     ensures { result ≡ packed (superframe_of periods.now) }
 {
     if !all_in_range(periods) {

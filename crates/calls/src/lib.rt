@@ -16,7 +16,7 @@ use text::say;
 
 pub mod cases;
 pub mod line;
-mod memory;
+pub mod memory;
 
 // A call, with its numbers in the order of its line.
 #[derive(Clone, Copy)]
@@ -37,7 +37,7 @@ pub struct Answered {
 }
 
 // The call that a line says; one with another letter is a round.
-fn call_of(line: Line) -> Call {
+pub fn call_of(line: Line) -> Call {
     let x = line.numbers;
     let letter = line.letter;
     match letter {

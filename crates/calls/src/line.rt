@@ -17,7 +17,7 @@ fn begun(letter: u8) -> Line {
     }
 }
 
-fn empty() -> Line {
+pub fn empty() -> Line {
     begun(0)
 }
 
@@ -61,7 +61,7 @@ fn with_separator(line: Line) -> Line {
     }
 }
 
-fn with_byte(line: Line, c: u8) -> Line {
+pub fn with_byte(line: Line, c: u8) -> Line {
     if line.letter == 0 {
         return begun(c);
     }

@@ -7,6 +7,8 @@
 //   C,BYTES: ANSWER ROUND PASSED RULE AT    of a plan in hex, the verdict, and behind it what was found: how many rounds passed, which rule the
 //                                           next one breaks, and how many bytes passed
 // A call is written as a line of vectors/library, which says it again to any other host; `call_of` reads it, all but a check.
+#![tactic(auto)]
+
 ghost use Rattle.std.specs.Prelude.{◌≤◌};
 
 use io::print_decimal;

@@ -1,7 +1,5 @@
 -- The arrays of a queue that a function is handed are as long as their types say.
-use mathlib.Core.Path.{sym, ◌∙◌}
 use mathlib.Core.List.{List}
-use lib.ListN.{length-map}
 use mir.Val.{Val}
 use denote.Laws.{Is}
 use denote.Struct.Declared.{row}
@@ -14,9 +12,9 @@ pub has_shape : (q : Queue) (vs : List Val) → Is (row the_type) q vs → HasSh
 has_shape q vs is =
     let fields = is.1.1 in
     record {
-      ids = sym (length-map q.ids (λ v. v)) ∙ fields.0.1.0.1;
-      keys = sym (length-map q.keys (λ v. v)) ∙ fields.1.0.1.0.1;
-      next = sym (length-map q.next (λ v. v)) ∙ fields.1.1.0.1.0.1;
-      prev = sym (length-map q.prev (λ v. v)) ∙ fields.1.1.1.0.1.0.1;
-      releases = sym (length-map q.releases (λ v. v)) ∙ fields.1.1.1.1.0.1.0.1;
+      ids = fields.0.1.0.1;
+      keys = fields.1.0.1.0.1;
+      next = fields.1.1.0.1.0.1;
+      prev = fields.1.1.1.0.1.0.1;
+      releases = fields.1.1.1.1.0.1.0.1;
     }

@@ -3,7 +3,7 @@ use Rattle.std.specs.Prelude.{◌≡◌, refl, ◌⊎◌, ℕ, zero, suc, ◌+�
 use Rattle.std.proofs.Common.{sym, ap, ◌∙◌, inl, lt_irrefl, arith, length-set, drop-cons, get_or-set_same, get_or-set_other}
 use Rattle.std.proofs.Math.Path.{subst⁻¹}
 use Rattle.std.proofs.Math.Logic.{inr, ∥∥₁_elim, ∥∥₁_map, if_neg}
-use mathlib.Core.List.{List, ◌∷◌, Mem, Pairwise-cons, filter-eq_self}
+use mathlib.Core.List.{List, [], ◌∷◌, Mem, Pairwise-cons, filter-eq_self}
 use Rattle.std.proofs.Math.Decide.{dec_lt}
 use Rattle.basics.specs.Facts.Members.{get_or_mem}
 use Rattle.basics.specs.Facts.Lexicographic.{then_zero}
@@ -32,7 +32,6 @@ no_entry = triple 0 0 0
 -- the entries after the one at place i are those that stand after it
 after_place : (es : List Entry) → InOrder es → (i : ℕ) (d : Entry) → i < length es → after (get_or es i d) es ≡ drop (suc i) es
 unfolding after
-after_place [] ordered i d within = elim within [ ]
 after_place [] ordered i d within = elim within [ ]
 after_place (x ∷ xs) ordered zero d within =
     if_neg (before x x) (λ self. before_asym x x self self) (x ∷ after x xs) (after x xs)

@@ -1,10 +1,8 @@
 -- `queue::links::position_sound` meets its contract: the node reached has only smaller ranks before it, and ranks rise along a bucket.
-use mathlib.Core.Path.{ap, subst, ◌∙◌}
-use Prim.Native.Nat.{ℕ, ◌-◌, ◌<◌, ◌≤◌}
-use borrow.Author.Rules.{rules}
-use Rattle.queue.specs.Layout.{next_at, queue_of}
+use Prim.Native.Nat.{◌-◌}
+use Rattle.queue.specs.Layout.{queue_of}
 use Rattle.queue.specs.Layout.Ranks.{rank_at, high}
-use Rattle.queue.specs.Layout.Walk.{Reached, head_below, reached_first, reached_next, walk_falls, stop_at_place, stop_at_head}
+use Rattle.queue.specs.Layout.Walk.{Reached}
 use Rattle.queue.proofs.links.position_sound.Given as goal
 
 abbrev pub invariant-loop-n : goal.invariant-loop-n

@@ -1,10 +1,8 @@
 -- `queue::moves::move_all_sound` meets its contract: after k turns the first k moves are done, and every id is still at its place.
 use Prim.Native.Nat.{◌-◌, ◌≤◌}
-use native.Mathlib.Omega.{arith}
 use Rattle.queue.specs.Layout.{queue_of}
 use Rattle.queue.specs.Linking.{CanMoveAll}
-use Rattle.queue.specs.Layout.Moves.{Moving, none_moved, turn_below, can_move_next, one_more_moved, all_moved}
-use Rattle.queue.proofs.Shape.{has_shape}
+use Rattle.queue.specs.Layout.Moves.{Moving}
 use Rattle.queue.proofs.moves.move_all_sound.Given as goal
 
 abbrev pub invariant-loop-k : goal.invariant-loop-k

@@ -1,15 +1,8 @@
 -- `queue::search::search_sound` meets its contract: no entry after the point has a key of a bucket passed, nor lies before the node reached.
-use mathlib.Core.Path.{refl, subst}
-use Prim.Native.Nat.{ℕ, ◌-◌, ◌<◌}
-use native.Mathlib.Omega.{arith}
-use borrow.Author.Rules.{rules}
-use Rattle.basics.specs.Decides.{Decides}
-use Rattle.basics.specs.Limits.{buckets}
-use Rattle.places.specs.Order.{Entry, Before, triple}
-use Rattle.queue.specs.Layout.{key_at, release_at, entry_at}
+use Prim.Native.Nat.{◌-◌}
+use Rattle.places.specs.Order.{triple}
 use Rattle.queue.specs.Layout.Ranks.{rank_at, high}
-use Rattle.queue.specs.Layout.Walk.{walk_falls}
-use Rattle.queue.specs.Layout.Buckets.{AtBucket, AtNode, at_first_bucket, bucket_below, at_first_node, at_next_node, at_next_bucket, left_at_node, left_with_none}
+use Rattle.queue.specs.Layout.Buckets.{AtBucket, AtNode}
 use Rattle.queue.proofs.search.search_sound.Given as goal
 
 abbrev pub invariant-loop-n : goal.invariant-loop-n

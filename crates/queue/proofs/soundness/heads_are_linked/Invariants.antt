@@ -1,10 +1,6 @@
 -- `queue::soundness::heads_are_linked` meets its contract: every head before x is right, and one that is not ends the search.
 use Prim.Native.Nat.{◌≤◌, ◌-◌}
-use native.Mathlib.Nat.{lt_irrefl}
-use native.Mathlib.Omega.{arith}
-use Rattle.basics.specs.Facts.Decides.{decides_no, decides_yes, failed, passed}
 use Rattle.basics.specs.Below.{Between}
-use Rattle.basics.specs.Facts.Below.{between_more}
 use Rattle.basics.specs.NewIds.{at}
 use Rattle.basics.specs.Limits.{places}
 use Rattle.queue.specs.Layout.Soundness.{HeadRight}

@@ -1,11 +1,7 @@
 -- `queue::soundness::places_are_linked` meets its contract: every place before x is right, and one that is not ends the search.
 use Prim.Native.Nat.{◌≤◌, ◌-◌}
-use native.Mathlib.Nat.{lt_irrefl}
-use native.Mathlib.Omega.{arith}
-use Rattle.basics.specs.Facts.Decides.{decides_no, decides_yes, failed, passed}
 use Rattle.places.specs.Entries.{row_of}
 use Rattle.basics.specs.Below.{Between}
-use Rattle.basics.specs.Facts.Below.{between_more}
 use Rattle.basics.specs.NewIds.{at}
 use Rattle.basics.specs.Limits.{places}
 use Rattle.queue.specs.Layout.Soundness.{PlaceRight}

@@ -1,6 +1,8 @@
 // Runs every call and every refusal of the queue at least once. A change prints its answer, a search its answer, key, release
 // and id.
 // The expected output is written by hand; what it has to be says the Annex, chapter 8.
+#![tactic(auto)]
+
 use io::print_decimal;
 use queue::{Found, Queue, delete, empty, insert, least, move_by, next};
 

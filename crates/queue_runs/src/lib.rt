@@ -1,4 +1,6 @@
 // Runs of the queue's calls for the benchmark in bench/: each fills a queue, repeats one kind of call, and answers a checksum of what it saw.
+#![tactic(auto)]
+
 use queue::{Queue, delete, empty, insert, is_sound, move_by, next};
 
 // One more number in a checksum below 65536.

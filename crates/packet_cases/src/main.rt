@@ -5,6 +5,8 @@
 //   P ANSWER START B N LENGTH IDS   what was read; the length of the part that the second call gives, and its bytes in hex
 //   W ANSWER BYTES                  all bytes of the buffer in hex, which held ee before
 // The cases are the edges of the Annex's chapter 10, vectors/library/packets; what is to be printed is what the oracle answers.
+#![tactic(auto)]
+
 use io::print_decimal;
 use packets::{packet_ids, packet_ids_length, packet_read, packet_write};
 use text::{bytes_in, line_end, print_hex, say};

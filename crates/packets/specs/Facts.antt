@@ -1,6 +1,4 @@
 -- What is proved of the definitions beside this folder; a reader may believe it unread.
-pub mod Exchange
-pub mod Examples
 pub mod Good
 pub mod Met
 pub mod Numbers

@@ -1,4 +1,6 @@
 // The lazy round planner: a planner goes in by value and comes back by value. What it is and when it is sound, the crate state has.
+#![tactic(auto)]
+
 ghost use Rattle.std.specs.Prelude.{◌≡◌, take};
 ghost use Rattle.planner.specs.AddRemove.{IsRemove};
 ghost use Rattle.planner.specs.Round.{IsRound};

@@ -1,4 +1,6 @@
 // What a planner holds, whether it is sound, and opening one.
+#![tactic(auto)]
+
 use messages::Waiting;
 pub use opening::open;
 use queue::Queue;

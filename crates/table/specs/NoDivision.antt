@@ -5,11 +5,14 @@ use Rattle.std.proofs.Math.Bool.{So}
 use lib.Text.{eqt}
 use mir.Syntax.{Op2, add, sub, mul, div, rem, bit_and, bit_or, bit_xor, shl, shr, eq, ne, lt, le, with_addr, offset, ptr_eq, ptr_ne, ptr_lt, ptr_le}
 use mir.Syntax.{float_add, float_sub, float_mul, float_div, float_rem, float_eq, float_ne, float_lt, float_le}
-use mir.Syntax.{unsigned, Place, Opd, Rv, rv_opd, op2, op1, addr_of, aggregate, repeat}
-use mir.Syntax.{Name, Fn, Body, skip, seq, assign, block, loop, cond, switch, exit, return, call, Arms, arm, default, no_default}
+use mir.Syntax.{wrap_add, wrap_sub, wrap_mul, map2, mask, shuffle, swizzle, fold, dot4}
+use mir.Syntax.{unsigned, Place, Opd, Sig, Rv, rv_opd, op2, op1, addr_of, aggregate, repeat, repeat_p, select}
+use mir.Syntax.{Symbol, Callee, fn, fn₀, method, forked, awaited, prim}
+use mir.Syntax.{Fn, Body, skip, seq, assign, block, loop, cond, switch, exit, return, call, unreachable, call_v, lend_static}
+use mir.Syntax.{Arms, arm, default, no_default}
 
 -- Annex 12.20: the functions that a loop over lengths may call, and they each other: each of them is held to the same in its own proof file.
-unfoldable pub in_loops : List Name
+unfoldable pub in_loops : List Symbol
 in_loops =
     "table::lengths::sums_at"
     ∷ "table::lengths::advance"
@@ -20,6 +23,7 @@ in_loops =
     ∷ []
 
 -- Annex 12.20: whether an operation on two values is neither a division nor a remainder. All of them stand here, so that a new one has to be looked at.
+-- One that goes lane by lane does what its operation does.
 unfoldable pub is_plain : Op2 → Bool
 is_plain (add s) = true
 is_plain (sub s) = true
@@ -50,6 +54,15 @@ is_plain float_eq = true
 is_plain float_ne = true
 is_plain float_lt = true
 is_plain float_le = true
+is_plain wrap_add = true
+is_plain wrap_sub = true
+is_plain wrap_mul = true
+is_plain (map2 o) = is_plain o
+is_plain (mask o) = is_plain o
+is_plain (shuffle lanes) = true
+is_plain (swizzle k) = true
+is_plain (fold o) = is_plain o
+is_plain dot4 = true
 
 -- Annex 12.20: of what an assignment stores, only an operation on two values can divide.
 unfoldable pub plain_value : Rv → Bool
@@ -60,14 +73,25 @@ plain_value (op1 o a) = true
 plain_value (addr_of p) = true
 plain_value (aggregate os) = true
 plain_value (repeat o n) = true
+plain_value (repeat_p o n) = true
+plain_value (select m a b) = true
 
 -- Annex 12.20: whether a name is one of these.
-unfoldable pub among : Name → List Name → Bool
+unfoldable pub among : Symbol → List Symbol → Bool
 among n [] = false
 among n (m ∷ ms) = eqt n m || among n ms
 
+-- Annex 12.20: a call that names a function does not divide if it names one of those above. No other call is taken.
+unfoldable pub plain_call : Callee → Bool
+unfolding among in_loops
+plain_call (fn n args) = among n in_loops
+plain_call (method d k args) = false
+plain_call (forked types f) = false
+plain_call (awaited types) = false
+plain_call (prim act) = false
+
 unfoldable mutual
-  unfolding plain_value among in_loops
+  unfolding plain_value plain_call
 
   -- Annex 12.20: no division, no remainder, and no call but of the functions above.
   pub never_divides : Body → Bool
@@ -80,7 +104,10 @@ unfoldable mutual
   never_divides (switch c arms) = arms_never_divide arms
   never_divides (exit k) = true
   never_divides return = true
-  never_divides (call n os p) = among n in_loops
+  never_divides (call f os p) = plain_call f
+  never_divides unreachable = true
+  never_divides (call_v o sig os p) = false
+  never_divides (lend_static p type value) = true
 
   arms_never_divide : Arms → Bool
   arms_never_divide (arm keys b rest) = never_divides b && arms_never_divide rest
@@ -101,7 +128,10 @@ unfoldable mutual
   loops_never_divide (switch c arms) = loops_of_arms_never_divide arms
   loops_never_divide (exit k) = true
   loops_never_divide return = true
-  loops_never_divide (call n os p) = true
+  loops_never_divide (call f os p) = true
+  loops_never_divide unreachable = true
+  loops_never_divide (call_v o sig os p) = true
+  loops_never_divide (lend_static p type value) = true
 
   loops_of_arms_never_divide : Arms → Bool
   loops_of_arms_never_divide (arm keys b rest) = loops_never_divide b && loops_of_arms_never_divide rest
@@ -116,15 +146,24 @@ NeverDivides f = So (never_divides f.body)
 abbrev pub LoopsNeverDivide : Fn → Type 0
 LoopsNeverDivide f = So (loops_never_divide f.body)
 
--- Worked: a remainder deep in a loop, a call of another function, and a division that stands outside the loops or within one.
+-- Worked: a remainder deep in a loop, a call of another function, one by its address, a division lane by lane, and one that stands outside the loops or
+-- within one.
 module _ (c a b : Opd) (p : Place) where
   remainder_refused : never_divides (loop (switch c (arm [] (assign p (op2 (rem unsigned) a b)) no_default))) ≡ false
   unfolding never_divides
   remainder_refused = refl
 
-  other_call_refused : never_divides (call "table::in_range" [] p) ≡ false
+  other_call_refused : never_divides (call (fn₀ "table::in_range") [] p) ≡ false
   unfolding never_divides
   other_call_refused = refl
+
+  call_by_address_refused : (sig : Sig) → never_divides (call_v c sig [] p) ≡ false
+  unfolding never_divides
+  call_by_address_refused sig = refl
+
+  lanes_divided_refused : never_divides (assign p (op2 (map2 (div unsigned)) a b)) ≡ false
+  unfolding never_divides
+  lanes_divided_refused = refl
 
   outside_loops : loops_never_divide (seq (assign p (op2 (div unsigned) a b)) (loop skip)) ≡ true
   unfolding loops_never_divide

@@ -97,8 +97,14 @@ module _ {p q : Planner} (twins : AreTwins p q) where
       asked_alike : Sound p → Sound q → content p ≡ content q
           → AreAlike (short_buffer (content p) before ∷ late_start p ∷ []) (short_buffer (content q) before' ∷ late_start q ∷ [])
       unfolding AreAlike
-      asked_alike one other same = (refl, ((λ short. rw (← long, ← same) short, λ short. rw (long, same) short), (refl, ((to, back), tt))))
+      asked_alike one other same = (refl, ((short_on, short_back), (refl, ((to, back), tt))))
         where
+          short_on : (short_buffer (content p) before).Applies → (short_buffer (content q) before').Applies
+          short_on short = subst (λ (h : Content). (short_buffer h before').Applies) same (omega (arith, short, long))
+
+          short_back : (short_buffer (content q) before').Applies → (short_buffer (content p) before).Applies
+          short_back short = subst (λ (h : Content). (short_buffer h before).Applies) (sym same) (omega (arith, short, long))
+
           to : StartsLate p → StartsLate q
           to late _ x start = late one x (subst (λ (h : Content). IsStart h x) (sym same) start)
 

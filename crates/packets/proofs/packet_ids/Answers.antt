@@ -3,11 +3,11 @@ use mathlib.Core.Path.{◌≡◌, ◌∙◌}
 use Prim.Native.Nat.{◌≤◌}
 use native.Mathlib.Nat.{lt_irrefl}
 use native.Mathlib.Omega.{arith}
-use borrow.Author.Rules.{rules}
 use lib.ListN.{length}
 use Rattle.basics.specs.Refusals.{answer_of}
 use Rattle.packets.specs.Reading.{read_refusals}
-use Rattle.packets.specs.Facts.Reading.{read_has_header, no_part, rest_is_part}
+use Rattle.packets.specs.Facts.Reading.{no_part, rest_is_part}
+use Rattle.packets.proofs.Reading.{read_has_header}
 use Rattle.packets.proofs.packet_ids.Goals as goal
 
 pub returns-then-read_refusal-gt0 : goal.returns-then-read_refusal-gt0

@@ -2,11 +2,10 @@
 use mathlib.Core.Path.{◌≡◌, sym, ◌∙◌}
 use Prim.Native.Nat.{◌≤◌}
 use native.Mathlib.Omega.{arith}
-use borrow.Author.Rules.{rules}
 use lib.ListN.{length}
 use Rattle.basics.specs.Refusals.{answer_of}
 use Rattle.packets.specs.Reading.{read_refusals}
-use Rattle.packets.specs.Facts.Reading.{read_has_header, read_refused, read_given}
+use Rattle.packets.proofs.Reading.{read_has_header, read_given}
 use Rattle.packets.proofs.packet_read.Goals as goal
 
 pub start_of_header-requires : goal.start_of_header-requires

@@ -1,7 +1,4 @@
 -- `packets::packet_write` meets its contract: refused, nothing was stored; else the header and then the ids are.
-use native.Mathlib.Omega.{arith}
-use borrow.Author.Rules.{rules}
-use Rattle.basics.specs.Facts.Decides.{failed, passed}
 use Rattle.packet_bytes.specs.Layout.{Values}
 use Rattle.packets.specs.Facts.Writing.{refuses_27, refuses_28, writes, header_and_ids}
 use Rattle.packets.proofs.packet_write.Goals as goal

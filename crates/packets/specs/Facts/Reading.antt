@@ -1,5 +1,5 @@
 -- Why a reader's tests give the answers, and what is read is what was meant.
-use Rattle.std.specs.Prelude.{◌≡◌, ℕ, ◌+◌, ◌-◌, ◌*◌, ◌≤◌, ◌<◌, length, get_or, take, drop}
+use Rattle.std.specs.Prelude.{◌≡◌, ℕ, ◌+◌, ◌-◌, ◌*◌, ◌<◌, length, get_or, take, drop}
 use Rattle.std.proofs.Math.Path.{sym, subst⁻¹}
 use Rattle.std.proofs.Common.{ap, ◌∙◌, lt_irrefl, length-drop, take_all}
 use Rattle.std.proofs.Math.Logic.{if_pos, if_neg}
@@ -12,7 +12,7 @@ use Rattle.basics.specs.Facts.Refusals.{answer_first, answer_later, answer_zero}
 use Rattle.packet_bytes.specs.Layout.{Values}
 use Rattle.packets.specs.Good.{IsGood, IsGoodPacket}
 use Rattle.packet_bytes.specs.Parts.{start_in, ids_in, values_in}
-use Rattle.packet_bytes.specs.Facts.Layout.{length_ids_in, values_kept, AreBytes, bytes_kept, length_bytes}
+use Rattle.packet_bytes.specs.Facts.Layout.{length_ids_in, length_bytes}
 use Rattle.packets.specs.Facts.Good.{good_in, decide_packet}
 use Rattle.packets.specs.Reading.{HasLength, wrong_length, bad_value, read_refusals, refused_read, IsRead, ids_part}
 
@@ -57,10 +57,6 @@ module _ (p : List ℕ) where
       let long : HasLength p = subst⁻¹ HasLength is.1 (omega arith, length_bytes v) in
       answer_later (wrong_length p) (bad_value p ∷ []) (λ wrong. wrong long) ∙ answer_later (bad_value p) [] (λ bad. bad is)
 
-  -- bytes of the right length with good values in them are answered 0
-  pub answers_0 : AreBytes p → HasLength p → IsGood (values_in p) → 0 ≡ answer_of (read_refusals p)
-  answers_0 small long good = sym (good_is_read (values_in p, sym (bytes_kept p small long.1), good))
-
   -- a packet that is not refused is good, and so has six bytes at least
   pub read_is_good : answer_of (read_refusals p) ≡ 0 → IsGoodPacket p
   read_is_good zero = go (decide_packet p)
@@ -74,24 +70,9 @@ module _ (p : List ℕ) where
       go (yes is) = is
       go (no not) = absurd (passes not)
 
-  -- bytes that are not refused are six or more, so that start, B and n are there to be read
-  pub read_has_header : answer_of (read_refusals p) ≡ 0 → 6 ≤ length p
-  read_has_header zero = let is = read_is_good zero in subst⁻¹ (λ (l : List ℕ). 6 ≤ length l) is.1 (omega arith)
-
   -- the number of the refusal, with zeros for start, B and n, is what a refused read has to give
   pub read_refused : {answer : ℕ} → answer ≡ answer_of (read_refusals p) → (answer ≡ 0 → ⊥) → IsRead p (refused_read answer)
   read_refused same some = record { read = λ zero. absurd (some (same ∙ zero)); refused = λ _. ap refused_read same }
-
-  -- what a read has to give of bytes that are not refused: 0, the start in bytes 0 to 3, byte 4 as B and byte 5 as n
-  pub read_given : {start slots n : ℕ} → answer_of (read_refusals p) ≡ 0 → start ≡ start_in p → slots ≡ get_or p 4 0 → n ≡ get_or p 5 0
-      → IsRead p (record { answer = 0; start = start; slots = slots; n = n })
-  read_given {start} {slots} {n} zero is_start is_slots is_n =
-      let is = read_is_good zero in
-      let v = is.0 in
-      let a : start ≡ v.start = is_start ∙ ap start_in is.1 ∙ ap (λ (w : Values). w.start) (values_kept v) in
-      let b : slots ≡ v.slots = is_slots ∙ ap (λ (l : List ℕ). get_or l 4 0) is.1 in
-      let c : n ≡ length v.ids = is_n ∙ ap (λ (l : List ℕ). get_or l 5 0) is.1 in
-      record { read = λ _. (v, is.1, is.2, λ i. record { answer = 0; start = a i; slots = b i; n = c i }); refused = λ some. absurd (some zero) }
 
   -- of bytes that are refused the part of the ids is empty ..
   pub no_part : (answer_of (read_refusals p) ≡ 0 → ⊥) → [] ≡ ids_part p

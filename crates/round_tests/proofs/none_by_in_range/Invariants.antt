@@ -1,11 +1,7 @@
 -- `round_tests::none_by_in_range` meets its contract: `none` says whether no due time before place i is by the end.
-use mathlib.Core.Logic.{⊎_elim}
-use mathlib.Core.Path.{subst}
-use Prim.Native.Nat.{ℕ, ◌≤◌, ◌-◌}
-use native.Mathlib.Omega.{arith}
+use Prim.Native.Nat.{◌≤◌, ◌-◌}
 use Rattle.basics.specs.Decides.{Decides}
 use Rattle.round_tests.specs.Tests.{NoneBy}
-use Rattle.round_tests.specs.Facts.Dues.{none_before, due_here, later_here}
 use Rattle.round_tests.proofs.none_by_in_range.Given as goal
 
 abbrev pub invariant-loop-i : goal.invariant-loop-i

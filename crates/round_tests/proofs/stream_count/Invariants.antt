@@ -1,14 +1,8 @@
 -- `round_tests::stream_count` meets its contract: `count` is the number of ids before place i.
-use mathlib.Core.Path.{◌≡◌, sym, ap, ◌∙◌}
-use mathlib.Core.Logic.{⊎_elim}
-use mathlib.Core.List.{List}
-use Prim.Native.Nat.{ℕ, ◌+◌, ◌≤◌, ◌-◌}
-use native.Mathlib.Nat.{lt_irrefl}
-use native.Mathlib.Omega.{arith}
+use mathlib.Core.Path.{◌≡◌}
+use Prim.Native.Nat.{◌≤◌, ◌-◌}
 use lib.ListN.{length, take}
-use lib.Seq.{take_all}
 use Rattle.messages.specs.Numbers.{stream_ids}
-use Rattle.round_tests.specs.Facts.Numbers.{one_more_id, no_more_ids}
 use Rattle.round_tests.proofs.stream_count.Given as goal
 
 abbrev pub invariant-loop-i : goal.invariant-loop-i

@@ -3,7 +3,7 @@ use Rattle.std.specs.Prelude.{◌≡◌, refl, ℕ, ◌<◌}
 use Rattle.std.proofs.Common.{sym, subst, ◌∙◌}
 use Rattle.std.proofs.Math.Logic.{ite, ∥∥₁_elim}
 use Rattle.std.proofs.Math.Logic.Dec.{not as Dec-not}
-use mathlib.Core.List.{List, [], ◌∷◌, ◌++◌, Mem, map, filter, map-map, map-append, map_congr_left, filter_map, exists_of_mem-map, mem-map_of_mem}
+use mathlib.Core.List.{List, [], ◌∷◌, ◌++◌, Mem, map, filter, map-map, map-append, map_congr_left, filter-map, exists_of_mem-map, mem-map_of_mem}
 use mathlib.Core.List.Perm
 use mathlib.Core.List.{Perm}
 use Rattle.std.proofs.Math.Decide.{dec_lt, ℕ_discrete}
@@ -64,4 +64,4 @@ as_streams_put x (y ∷ ys) = go (dec_lt x.id y.id) (as_streams_put x ys)
 pub as_streams_without : (id : ℕ) (rs : List Record)
     → as_streams (without_id id rs) ≡ filter (λ (s : Stream). Dec-not (ℕ_discrete s.number id)) (as_streams rs)
 unfolding without_id as_streams
-as_streams_without id rs = sym (filter_map (λ (s : Stream). Dec-not (ℕ_discrete s.number id)) stream_of rs)
+as_streams_without id rs = sym (filter-map (λ (s : Stream). Dec-not (ℕ_discrete s.number id)) stream_of rs)

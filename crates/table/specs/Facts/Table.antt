@@ -27,10 +27,8 @@ all_rows : (P : Record → Type 0) → ((r : Record) → IsProp (P r)) → (rows
 all_rows P prop rows n all r m = ∥∥₁_elim m (prop r) (λ place. go n rows all place)
   where
     go : (n : ℕ) (rows : List Record) → ((k : ℕ) → k < n → P (row_at rows k)) → Memᴰ r (take n rows) → P r
-    go zero _ all x'' = elim x'' [ ]
-    go (suc n) [] all x5 = elim x5 [ ]
-    go zero _ all x'' = elim x'' [ ]
-    go (suc n) [] all x5 = elim x5 [ ]
+    go zero _ all place = elim place [ ]
+    go (suc n) [] all place = elim place [ ]
     go (suc n) (x ∷ xs) all (Memᴰ.head e) = subst P (sym e) (all 0 (omega arith))
     go (suc n) (x ∷ xs) all (Memᴰ.tail place) = go n xs (λ k low. all (suc k) (omega arith)) place
 

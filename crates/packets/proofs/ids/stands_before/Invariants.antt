@@ -1,12 +1,8 @@
 -- `packets::ids::stands_before` meets its contract: `found` says whether the id stands at a place before j.
-use mathlib.Core.Logic.{⊎_elim}
-use mathlib.Core.List.{Mem, not-mem-nil}
-use Prim.Native.Nat.{◌≤◌, ◌<◌, ◌-◌}
-use native.Mathlib.Omega.{arith}
-use lib.ListN.{length, take}
+use mathlib.Core.List.{Mem}
+use Prim.Native.Nat.{◌≤◌, ◌-◌}
+use lib.ListN.{take}
 use Rattle.basics.specs.Decides.{Decides}
-use Rattle.basics.specs.Facts.Decides.{decides_no}
-use Rattle.packets.specs.Facts.Met.{found_at, passed_over, all_looked_at}
 use Rattle.packets.proofs.ids.stands_before.Given as goal
 
 abbrev pub invariant-loop-j : goal.invariant-loop-j

@@ -1,11 +1,11 @@
 use mathlib.Core.Path.{subst}
 use mathlib.Core.List.{List}
-use Prim.Native.Nat.{ℕ, ◌≤◌, ◌-◌}
+use Prim.Native.Nat.{ℕ}
 use native.Mathlib.Omega.{arith}
-use lib.ListN.{length, get_or, take}
+use lib.ListN.{get_or}
 use lib.Seq.{take_all}
 use Rattle.basics.specs.Decides.{Decides}
-use Rattle.basics.specs.Facts.Decides.{decides_yes, decides_no, failed, passed}
+use Rattle.basics.specs.Facts.Decides.{decides_yes, decides_no}
 use Rattle.basics.specs.Facts.Members.{get_or_mem}
 use Rattle.messages.specs.Waiting.{IsMessage}
 use Rattle.packets.specs.Good.{AreMessages}

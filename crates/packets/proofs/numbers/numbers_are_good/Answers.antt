@@ -1,18 +1,17 @@
 use mathlib.Core.Path.{subst}
 use mathlib.Core.List.{List}
-use Prim.Native.Nat.{ℕ, ◌≤◌, ◌-◌}
+use Prim.Native.Nat.{ℕ}
 use native.Mathlib.Omega.{arith}
-use lib.ListN.{length, get_or, take}
+use lib.ListN.{get_or}
 use lib.Seq.{take_all}
 use Rattle.basics.specs.Decides.{Decides}
-use Rattle.basics.specs.Facts.Decides.{decides_yes, decides_no, failed, passed}
+use Rattle.basics.specs.Facts.Decides.{decides_yes, decides_no}
 use Rattle.basics.specs.Limits.{largest_id}
 use Rattle.basics.specs.OneTo.{OneTo}
 use Rattle.bits.specs.Facts.Words.{zeros}
 use Rattle.packets.specs.Good.{IdsGood}
 use Rattle.packets.specs.Facts.Met.{none_met, one_more_met}
 use Rattle.packets.specs.Facts.Numbers.{good_is_new, rest_decides, ids_alone}
-use Rattle.packets.specs.Met.{IsMet}
 use Rattle.packets.proofs.numbers.numbers_are_good.Goals as goal
 
 pub loop-i-init : goal.loop-i-init

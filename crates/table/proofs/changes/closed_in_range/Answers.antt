@@ -1,7 +1,5 @@
 use mathlib.Core.Path.{refl}
-use Prim.Native.Nat.{◌-◌}
-use native.Mathlib.Omega.{arith}
-use Rattle.table.specs.Facts.Moves.{Closing, none_closed, one_more_closed, all_closed}
+use Rattle.table.specs.Facts.Moves.{all_closed}
 use Rattle.table.proofs.Shape.{table_shape}
 use Rattle.table.proofs.changes.closed_in_range.Goals as goal
 

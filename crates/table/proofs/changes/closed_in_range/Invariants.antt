@@ -1,9 +1,6 @@
 -- `table::changes::closed_in_range` meets its contract: the places before i hold what belongs there, those from i on are untouched.
-use mathlib.Core.Path.{refl}
 use Prim.Native.Nat.{◌-◌}
-use native.Mathlib.Omega.{arith}
-use Rattle.table.specs.Facts.Moves.{Closing, none_closed, one_more_closed, all_closed}
-use Rattle.table.proofs.Shape.{table_shape}
+use Rattle.table.specs.Facts.Moves.{Closing}
 use Rattle.table.proofs.changes.closed_in_range.Given as goal
 
 abbrev pub invariant-loop-i : goal.invariant-loop-i

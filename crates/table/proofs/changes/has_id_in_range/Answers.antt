@@ -1,10 +1,7 @@
 -- `table::changes::has_id_in_range` meets its contract: an id that is held stands at the place for it, and nowhere else.
-use native.Mathlib.Nat.{lt_irrefl}
-use native.Mathlib.Omega.{arith}
-use Rattle.basics.specs.Facts.Decides.{decides_no, same_as, equal_to}
+use Rattle.basics.specs.Facts.Decides.{same_as, equal_to}
 use Rattle.table.specs.Facts.Changes.{held_at_place}
 use Rattle.table.proofs.Shape.{table_holds}
-use borrow.Author.Rules.{rules}
 use Rattle.table.proofs.changes.has_id_in_range.Goals as goal
 
 pub returns : goal.returns

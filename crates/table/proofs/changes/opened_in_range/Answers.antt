@@ -1,6 +1,4 @@
-use Prim.Native.Nat.{◌-◌}
-use native.Mathlib.Omega.{arith}
-use Rattle.table.specs.Facts.Moves.{Opening, none_opened, one_more_opened, all_opened}
+use Rattle.table.specs.Facts.Moves.{all_opened}
 use Rattle.table.proofs.Shape.{table_shape}
 use Rattle.table.proofs.changes.opened_in_range.Goals as goal
 

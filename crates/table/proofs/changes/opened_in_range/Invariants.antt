@@ -1,8 +1,6 @@
 -- `table::changes::opened_in_range` meets its contract: the places after i hold what belongs there, those before i are untouched.
 use Prim.Native.Nat.{◌-◌}
-use native.Mathlib.Omega.{arith}
-use Rattle.table.specs.Facts.Moves.{Opening, none_opened, one_more_opened, all_opened}
-use Rattle.table.proofs.Shape.{table_shape}
+use Rattle.table.specs.Facts.Moves.{Opening}
 use Rattle.table.proofs.changes.opened_in_range.Given as goal
 
 abbrev pub invariant-loop-i : goal.invariant-loop-i

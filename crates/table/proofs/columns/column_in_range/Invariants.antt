@@ -1,11 +1,9 @@
 -- `table::columns::column_in_range` meets its contract: the values before place i are right.
-use mathlib.Core.Path.{◌≡◌, refl, ◌∙◌}
+use mathlib.Core.Path.{◌≡◌}
 use Prim.Native.Nat.{ℕ, ◌-◌, ◌≤◌, ◌<◌}
-use native.Mathlib.Omega.{arith}
-use borrow.Author.Count.{below_none}
-use lib.ListN.{get_or, length, length-set}
+use lib.ListN.{get_or, length}
 use Rattle.table.specs.Table.{stream_of, value_of}
-use Rattle.table.specs.Facts.Table.{row_at, one_place_more}
+use Rattle.table.specs.Facts.Table.{row_at}
 use Rattle.table.proofs.columns.column_in_range.Given as goal
 
 abbrev pub invariant-loop-i : goal.invariant-loop-i

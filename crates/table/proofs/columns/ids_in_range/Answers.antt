@@ -1,6 +1,5 @@
-use Prim.Native.Nat.{◌-◌, ◌≤◌}
 use native.Mathlib.Omega.{arith}
-use Rattle.table.specs.Facts.Ids.{IdsTo, ids_none, ids_more}
+use Rattle.table.specs.Facts.Ids.{ids_none}
 use Rattle.table.proofs.columns.ids_in_range.Goals as goal
 
 pub loop-i-init : goal.loop-i-init

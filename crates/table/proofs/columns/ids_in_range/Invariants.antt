@@ -1,7 +1,6 @@
 -- `table::columns::ids_in_range` meets its contract: the ids before place i are written, the places from it on are still free.
 use Prim.Native.Nat.{◌-◌, ◌≤◌}
-use native.Mathlib.Omega.{arith}
-use Rattle.table.specs.Facts.Ids.{IdsTo, ids_none, ids_more}
+use Rattle.table.specs.Facts.Ids.{IdsTo}
 use Rattle.table.proofs.columns.ids_in_range.Given as goal
 
 abbrev pub invariant-loop-i : goal.invariant-loop-i

@@ -1,10 +1,10 @@
 use mathlib.Core.Path.{refl}
-use Prim.Native.Nat.{◌-◌}
 use native.Mathlib.Omega.{arith}
 use lib.ListN.{get_or}
-use Rattle.table.specs.Facts.Lengths.{GoneOn, none_gone_on, one_more_gone_on, all_gone_on, hits_few, hits_before_few}
+use Rattle.table.specs.Facts.Lengths.{none_gone_on, one_more_gone_on, all_gone_on, hits_few, hits_before_few}
 use Rattle.table.specs.NoDivision.{NeverDivides, never_divides}
 use Rattle.table.proofs.lengths.advance.Goals as goal
+use Rattle.table.proofs.lengths.advance.Code as code
 
 pub loop-i-init : goal.loop-i-init
 loop-i-init c = none_gone_on _ _ _ _
@@ -26,3 +26,8 @@ loop-i-preserved c =
 
 pub returns : goal.returns
 returns c = all_gone_on c.loop-i.invariant c.loop-i-test.false
+
+-- Annex 12.20: no division, no remainder, and no call but of functions of which the same is proved
+pub no_division : NeverDivides code.function
+unfolding never_divides
+no_division = refl

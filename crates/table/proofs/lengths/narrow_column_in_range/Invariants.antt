@@ -1,10 +1,7 @@
 -- `table::lengths::narrow_column_in_range` meets its contract: before place i the values stand less the base.
-use mathlib.Core.Path.{◌≡◌, refl, ◌∙◌}
+use mathlib.Core.Path.{◌≡◌}
 use Prim.Native.Nat.{ℕ, ◌-◌, ◌≤◌, ◌<◌}
-use native.Mathlib.Omega.{arith}
-use borrow.Author.Count.{below_none}
-use lib.ListN.{get_or, length, length-set}
-use Rattle.table.specs.Facts.Table.{one_place_more}
+use lib.ListN.{get_or, length}
 use Rattle.table.proofs.lengths.narrow_column_in_range.Given as goal
 
 abbrev pub invariant-loop-i : goal.invariant-loop-i

@@ -1,8 +1,6 @@
-use Prim.Native.Nat.{◌-◌, ◌≤◌}
-use native.Mathlib.Nat.{lt_irrefl, lt_of_lt_of_le}
 use native.Mathlib.Omega.{arith}
-use Rattle.basics.specs.Facts.Decides.{decides_no, decides_yes, failed, passed}
-use Rattle.table.specs.Facts.RangeTests.{Followed, none_followed, one_more_followed, all_followed, next_follows}
+use Rattle.basics.specs.Facts.Decides.{decides_no, decides_yes}
+use Rattle.table.specs.Facts.RangeTests.{none_followed, one_more_followed, all_followed, next_follows}
 use Rattle.table.proofs.Shape.{table_shape}
 use Rattle.table.proofs.range.in_range.Goals as goal
 

@@ -1,10 +1,6 @@
 -- `table::range::in_range` meets its contract: the streams before place i follow one another, and one that cannot follow ends the search.
 use Prim.Native.Nat.{◌-◌, ◌≤◌}
-use native.Mathlib.Nat.{lt_irrefl, lt_of_lt_of_le}
-use native.Mathlib.Omega.{arith}
-use Rattle.basics.specs.Facts.Decides.{decides_no, decides_yes, failed, passed}
-use Rattle.table.specs.Facts.RangeTests.{Followed, none_followed, one_more_followed, all_followed, next_follows}
-use Rattle.table.proofs.Shape.{table_shape}
+use Rattle.table.specs.Facts.RangeTests.{Followed}
 use Rattle.table.proofs.range.in_range.Given as goal
 
 abbrev pub invariant-loop-i : goal.invariant-loop-i

@@ -1,9 +1,6 @@
 -- `table::start::least_of` meets its contract: `least` is the least of the values before i.
 use Prim.Native.Nat.{◌≤◌, ◌-◌}
-use native.Mathlib.Omega.{arith}
-use borrow.Author.Rules.{rules}
 use Rattle.table.specs.Start.{IsLeastOf}
-use Rattle.table.specs.Facts.Start.{least_one, least_more, least_all}
 use Rattle.table.proofs.start.least_of.Given as goal
 
 abbrev pub invariant-loop-i : goal.invariant-loop-i

@@ -1,6 +1,4 @@
 -- `table::start::next_start_in_range` meets its contract: an empty table leaves the cap, and else the search begins at the least due time.
-use native.Mathlib.Omega.{arith}
-use borrow.Author.Rules.{rules}
 use Rattle.table.specs.Facts.Search.{empty_table, can_narrow_period, can_narrow_due, can_look}
 use Rattle.table.proofs.Shape.{table_holds}
 use Rattle.table.proofs.start.next_start_in_range.Goals as goal

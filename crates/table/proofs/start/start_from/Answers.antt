@@ -1,21 +1,13 @@
-use mathlib.Core.Path.{◌≡◌, refl}
-use Prim.Native.Nat.{ℕ, ◌+◌, ◌-◌, ◌*◌, ◌≤◌}
-use native.Mathlib.Nat.{le_trans}
+use mathlib.Core.Path.{refl}
+use Prim.Native.Nat.{◌-◌}
 use native.Mathlib.Omega.{arith}
 use mir.Syntax.{w16}
-use borrow.Author.Rules.{rules}
 use borrow.Kind.Array.{good_length, e_int}
-use Rattle.basics.specs.Limits.{places}
-use Rattle.rules.specs.Demand.{ceil}
-use Rattle.rules.proofs.Facts.Division.{div_mono}
-use Rattle.table.specs.Table.{streams_of}
-use Rattle.table.specs.Lengths.{IsWalk}
-use Rattle.table.specs.Facts.Lengths.{can_advance}
-use Rattle.table.specs.Start.{due_from}
-use Rattle.table.specs.Facts.Start.{Looked, looked_none}
-use Rattle.table.specs.Facts.Search.{begins, few_rounds, walked, stops, goes_on, ends}
+use Rattle.table.specs.Facts.Start.{looked_none}
+use Rattle.table.specs.Facts.Search.{begins, walked, stops, goes_on, ends}
 use Rattle.table.specs.NoDivision.{LoopsNeverDivide, loops_never_divide}
 use Rattle.table.proofs.start.start_from.Goals as goal
+use Rattle.table.proofs.start.start_from.Code as code
 
 pub loop-t-init : goal.loop-t-init
 loop-t-init c =
@@ -51,3 +43,8 @@ loop-t-preserved c =
 
 pub returns : goal.returns
 returns c = ends c.requires (omega arith) c.loop-t.invariant.4
+
+-- Annex 12.20: in the loop over lengths no division, no remainder, and no call but of functions of which the same is proved
+pub no_division : LoopsNeverDivide code.function
+unfolding loops_never_divide
+no_division = refl

@@ -1,22 +1,13 @@
 -- `table::start::start_from` meets its contract: the lengths before t have been looked at, the walk stands at the length before t, both from
 -- now on, and the rounds needed there are not too many for t.
-use mathlib.Core.Path.{◌≡◌, refl}
+use mathlib.Core.Path.{◌≡◌}
 use Prim.Native.Nat.{ℕ, ◌+◌, ◌-◌, ◌*◌, ◌≤◌}
-use native.Mathlib.Nat.{le_trans}
-use native.Mathlib.Omega.{arith}
-use mir.Syntax.{w16}
-use borrow.Author.Rules.{rules}
-use borrow.Kind.Array.{good_length, e_int}
 use Rattle.basics.specs.Limits.{places}
 use Rattle.rules.specs.Demand.{ceil}
-use Rattle.rules.proofs.Facts.Division.{div_mono}
 use Rattle.table.specs.Table.{streams_of}
 use Rattle.table.specs.Lengths.{IsWalk}
-use Rattle.table.specs.Facts.Lengths.{can_advance}
 use Rattle.table.specs.Start.{due_from}
-use Rattle.table.specs.Facts.Start.{Looked, looked_none}
-use Rattle.table.specs.Facts.Search.{begins, few_rounds, walked, stops, goes_on, ends}
-use Rattle.table.specs.NoDivision.{LoopsNeverDivide, loops_never_divide}
+use Rattle.table.specs.Facts.Start.{Looked}
 use Rattle.table.proofs.start.start_from.Given as goal
 
 abbrev pub invariant-loop-t : goal.invariant-loop-t

@@ -1,4 +1,6 @@
 // A checker of plans that somebody else made: packets laid end to end, and a planner to begin from. Nothing is taken on trust.
+#![tactic(auto)]
+
 ghost use Rattle.state.specs.Sound.{Sound};
 ghost use Rattle.checker.specs.Verdicts.{IsFinding, IsVerdict};
 

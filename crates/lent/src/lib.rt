@@ -1,6 +1,9 @@
 // The planner that the firmware keeps and lends to each call, to be changed, or by check to be read: thin forms over the calls by value, exported to C.
 // A refused call stores nothing (Annex 7.37, 13.6): add, remove, send and round store the planner only where the answer is 0; open stores always, and
 // check never (Annex 14.16).
+
+#![tactic(auto)]
+
 ghost use Rattle.std.specs.Prelude.{◌≡◌, length, take};
 ghost use Rattle.basics.specs.Version.{version};
 ghost use Rattle.state.specs.Open.{setting};

@@ -1,7 +1,6 @@
 -- `bits::with_below_64` meets its contract: the number 1 shifted by n has digit n alone.
 use native.Mathlib.Omega.{arith}
 use Rattle.bits.specs.Facts.Bits.{joined_is_with}
-use borrow.Author.Rules.{rules}
 use Rattle.bits.proofs.with_below_64.Goals as goal
 
 pub returns : goal.returns

@@ -1,17 +1,12 @@
-use mathlib.Core.Path.{◌≡◌, refl, sym, ap, ◌∙◌}
-use mathlib.Core.List.{List, ◌++◌}
-use Prim.Native.Nat.{ℕ, ◌+◌, ◌-◌, ◌≤◌, ◌<◌}
-use native.Mathlib.Nat.{le_trans}
+use mathlib.Core.Path.{◌≡◌}
 use native.Mathlib.Numerals.{add-one}
 use native.Mathlib.Omega.{arith}
-use lib.ListN.{length, take, drop, get_or, length-set, take-append-drop}
-use lib.Seq.{paste, paste-suc, take-paste, take-take}
+use lib.ListN.{length}
+use lib.Seq.{paste-suc}
 use mir.Syntax.{w16}
 use borrow.Kind.Array.{good_length, e_int}
 use Rattle.basics.specs.Limits.{most_waiting}
-use Rattle.messages.specs.Facts.Waiting.{paste_none, paste_all}
 use Rattle.messages.proofs.Shape.{numbers_shape}
-use Rattle.messages.proofs.listed_in_range.Reads as reads
 use Rattle.messages.proofs.listed_in_range.Goals as goal
 
 pub loop-i-preserved : goal.loop-i-preserved

@@ -1,5 +1,5 @@
 -- Lists cut at both ends.
-use Rattle.std.specs.Prelude.{◌≡◌, refl, ℕ, zero, suc, ◌+◌, ◌-◌, ◌≤◌, ◌<◌, min, take, drop, get_or, set, length}
+use Rattle.std.specs.Prelude.{◌≡◌, ℕ, zero, suc, ◌+◌, ◌-◌, ◌≤◌, ◌<◌, min, take, drop, get_or, set, length}
 use Rattle.std.proofs.Common.{sym, ap, subst, ◌∙◌, arith, add-one, length-append, length-take, length-drop, drop_of_length-le, take-append-drop, length-take-le, get_or-take, take-suc, take-suc-set, get_or-drop, take_all, take-take}
 use Rattle.std.proofs.Math.Logic.{∥∥₁_elim}
 use mathlib.Core.HLevel.{×_prop}

@@ -1,8 +1,7 @@
 use mathlib.Core.Path.{refl}
-use Prim.Native.Nat.{◌-◌, ◌≤◌}
 use native.Mathlib.Omega.{arith}
 use Rattle.packet_bytes.specs.Parts.{ids_in}
-use Rattle.packet_bytes.specs.Facts.Stores.{AreTaken, one_more_pair, all_pairs}
+use Rattle.packet_bytes.specs.Facts.Stores.{one_more_pair}
 use Rattle.packet_bytes.proofs.ids_of_pairs.Goals as goal
 
 pub loop-k-init : goal.loop-k-init

@@ -1,9 +1,6 @@
 -- `packet_bytes::ids_of_pairs` meets its contract: the first k places hold the ids of the first k pairs.
-use mathlib.Core.Path.{refl}
 use Prim.Native.Nat.{◌-◌, ◌≤◌}
-use native.Mathlib.Omega.{arith}
-use Rattle.packet_bytes.specs.Parts.{ids_in}
-use Rattle.packet_bytes.specs.Facts.Stores.{AreTaken, one_more_pair, all_pairs}
+use Rattle.packet_bytes.specs.Facts.Stores.{AreTaken}
 use Rattle.packet_bytes.proofs.ids_of_pairs.Given as goal
 
 abbrev pub invariant-loop-k : goal.invariant-loop-k

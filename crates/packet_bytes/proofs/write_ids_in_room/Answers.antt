@@ -1,7 +1,4 @@
-use Prim.Native.Nat.{◌-◌}
-use native.Mathlib.Omega.{arith}
-use lib.ListN.{length, length-set}
-use Rattle.packet_bytes.specs.Facts.Stores.{AreStored, none_stored, length_stored, one_more_stored, all_stored}
+use Rattle.packet_bytes.specs.Facts.Stores.{none_stored, one_more_stored}
 use Rattle.packet_bytes.proofs.write_ids_in_room.Goals as goal
 
 pub loop-k-init : goal.loop-k-init

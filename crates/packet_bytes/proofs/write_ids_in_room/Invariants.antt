@@ -1,8 +1,7 @@
 -- `packet_bytes::write_ids_in_room` meets its contract: the first k ids are stored, and later bytes are as they were.
 use Prim.Native.Nat.{◌-◌}
-use native.Mathlib.Omega.{arith}
-use lib.ListN.{length, length-set}
-use Rattle.packet_bytes.specs.Facts.Stores.{AreStored, none_stored, length_stored, one_more_stored, all_stored}
+use lib.ListN.{length}
+use Rattle.packet_bytes.specs.Facts.Stores.{AreStored}
 use Rattle.packet_bytes.proofs.write_ids_in_room.Given as goal
 
 abbrev pub invariant-loop-k : goal.invariant-loop-k

@@ -13,7 +13,7 @@ use Prim.Native.Nat.{ℕ, suc, ◌+◌, ◌-◌, ◌*◌, ◌≤◌, ◌<◌}
 use Rattle.std.proofs.Math.Decide.{dec_le, dec_lt}
 use Rattle.std.proofs.Math.ListN.{length, length-append, get_or-append}
 use Rattle.std.proofs.Math.Seq.{get_or-append_seam}
-use Rattle.rules.specs.Streams.{Stream, Packet, packet, due, IsTable, PacketOf}
+use Rattle.rules.specs.Streams.{Stream, Packet, packet, IsTable, PacketOf}
 use Rattle.rules.specs.Demand.{Candidate, future, ceil, IsLazyStart}
 use Rattle.rules.specs.Slots.{slots, after_round, passed}
 use Rattle.rules.specs.Plans.{Round, IsPlan, Serves, IsRival}

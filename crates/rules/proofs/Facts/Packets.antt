@@ -8,7 +8,7 @@ use mathlib.Core.HLevel.{⊥_prop}
 use mathlib.Core.List.{List, Mem, map, mem-map, mem-map_of_mem}
 use mathlib.Mathlib.Data.List.Nodup.{inj_on_of_Nodup-map}
 use Rattle.std.proofs.Math.Decide.{dec_lt}
-use Rattle.rules.specs.Streams.{Stream, Packet, packet, due, IsTable, PacketOf}
+use Rattle.rules.specs.Streams.{Stream, Packet, packet, IsTable, PacketOf}
 use Rattle.rules.specs.Demand.{future}
 use Rattle.rules.specs.Slots.{next, passed}
 use Rattle.rules.proofs.Facts.Sums.{period_positive}

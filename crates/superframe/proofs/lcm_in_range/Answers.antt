@@ -1,12 +1,11 @@
-use Prim.Native.Nat.{◌≤◌, ◌-◌}
 use native.Mathlib.Nat.{lt_irrefl, lt_of_lt_of_le}
 use native.Mathlib.Omega.{arith}
-use lib.ListN.{length, take, get_or}
+use lib.ListN.{get_or}
 use lib.Seq.{take_all}
 use Rattle.basics.specs.Limits.{longest_frame, longest_period}
 use Rattle.basics.specs.OneTo.{OneTo}
 use Rattle.superframe.proofs.Prefix.{mem_get_or}
-use Rattle.superframe.proofs.Fold.{Folded, folded_none, folded_next, folded_done}
+use Rattle.superframe.proofs.Fold.{folded_none, folded_next, folded_done}
 use Rattle.superframe.proofs.lcm_in_range.Goals as goal
 
 pub loop-at-init : goal.loop-at-init

@@ -1,8 +1,5 @@
 -- `superframe::lcm_within_limit` meets its contract: m / gcd × p is the least common multiple, and at most 5,040 × 240.
-use native.Mathlib.Nat.{div-le_self, le_trans, lt_of_le_of_lt, mul-le-mul}
-use lib.Dec.{lit<}
 use Rattle.superframe.proofs.Euclid.{gcd_positive, lcm_of_two}
-use borrow.Author.Rules.{rules}
 use Rattle.superframe.proofs.lcm_within_limit.Goals as goal
 
 pub nonzero_div-result : goal.nonzero_div-result

@@ -1,11 +1,9 @@
 -- `superframe::superframe` meets its contract: each of its three answers is superframe-of's in that case.
 use mathlib.Core.Path.{sym, ap, ◌∙◌}
 use native.Mathlib.Nat.{lt_of_lt_of_le}
-use borrow.Author.Tests.{not-true, not-false}
 use Rattle.superframe.specs.Periods.{AllInRange, IsLcm}
 use Rattle.superframe.specs.Superframe.{packed}
 use Rattle.superframe.specs.Facts.Superframe.{refuses_18, gives_lcm, refuses_19}
-use borrow.Author.Rules.{rules}
 use Rattle.superframe.proofs.superframe.Goals as goal
 
 pub returns-then-not-all_in_range : goal.returns-then-not-all_in_range

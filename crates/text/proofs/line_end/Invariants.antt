@@ -1,7 +1,6 @@
 -- `text::line_end` meets its contract: no LF stands before `at`.
 use Prim.Native.Nat.{◌≤◌, ◌-◌}
 use lib.ListN.{length}
-use borrow.Author.Rules.{rules}
 use Rattle.text.proofs.line_end.Given as goal
 
 abbrev pub invariant-loop-at : goal.invariant-loop-at

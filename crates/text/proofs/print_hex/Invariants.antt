@@ -1,7 +1,6 @@
 -- `text::print_hex` is safe and ends: the bytes before i have been printed.
 use Prim.Native.Nat.{◌≤◌, ◌-◌}
 use lib.ListN.{length}
-use borrow.Author.Rules.{rules}
 use Rattle.text.proofs.print_hex.Given as goal
 
 abbrev pub invariant-loop-i : goal.invariant-loop-i

@@ -1,10 +1,6 @@
 -- `places::changes::key_fits` meets its contract: every place before i leaves the key within the span.
 use Prim.Native.Nat.{ℕ, ◌≤◌, ◌<◌, ◌-◌}
-use native.Mathlib.Nat.{lt_irrefl, lt_of_lt_of_le}
-use native.Mathlib.Omega.{arith}
-use borrow.Author.Count.{below_none, below_more}
-use Rattle.basics.specs.Facts.Decides.{decides_yes, decides_no, failed, passed}
-use Rattle.basics.specs.Limits.{largest_key, places}
+use Rattle.basics.specs.Limits.{places}
 use Rattle.places.specs.Changes.{PlaceFits}
 use Rattle.places.proofs.changes.key_fits.Given as goal
 

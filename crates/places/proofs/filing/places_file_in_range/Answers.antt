@@ -1,17 +1,15 @@
 use mathlib.Core.Path.{◌≡◌, refl, subst, ◌∙◌}
 use mathlib.Core.List.{List}
-use mathlib.Core.Logic.{⊎_elim}
-use Prim.Native.Nat.{ℕ, ◌≤◌, ◌-◌}
+use Prim.Native.Nat.{ℕ}
 use native.Mathlib.Omega.{arith}
-use borrow.Author.Rules.{rules}
-use lib.ListN.{length, length-set}
+use lib.ListN.{length-set}
 use Rattle.basics.specs.Facts.Decides.{decides_no}
 use Rattle.places.specs.Order.{triple}
 use Rattle.places.specs.Entries.{row_of}
 use Rattle.places.specs.Filing.{IsRow}
 use Rattle.basics.specs.NewIds.{at}
 use Rattle.basics.specs.Limits.{places}
-use Rattle.places.specs.Facts.Filing.{FiledTo, filed_none, filed_free, counted_few, filed_all, row_absent, row_again, row_new}
+use Rattle.places.specs.Facts.Filing.{filed_none, filed_free, counted_few, filed_all, row_absent, row_new}
 use Rattle.places.specs.Facts.Marks.{no_marks}
 use Rattle.places.proofs.filing.places_file_in_range.Goals as goal
 use Rattle.places.proofs.filing.places_file_in_range.Goals.{then-id-gt0+else-i-eq-PLACES+else-met-i-ne0, else-id-gt0}
@@ -47,12 +45,12 @@ loop-x-preserved c =
     let a = c.args in (
       omega arith,
       elim c.if-id-gt0.branch [
-        then-id-gt0+else-i-eq-PLACES+else-met-i-ne0 w ↦
-          rw (w.met-is, w.n-is) (
-            length-set loop.met w.row_in_range-i.result 1 ∙ loop.invariant.1.0,
-            row_new loop.met c.requires loop.invariant.1.1 c.loop-x-test.true (rw (← wide) w.if-id-gt0.true)
-              (at_place a.filed.now a.under.now a.since.now loop.x wide w.row_in_range-i.ensures) w.if-i-eq-PLACES.false w.if-met-i-ne0.false loop.invariant.1.0,
-          )
+        | then-id-gt0+else-i-eq-PLACES+else-met-i-ne0 w ↦
+            rw (w.met-is, w.n-is) (
+              length-set loop.met w.row_in_range-i.result 1 ∙ loop.invariant.1.0,
+              row_new loop.met c.requires loop.invariant.1.1 c.loop-x-test.true (rw (← wide) w.if-id-gt0.true)
+                  (at_place a.filed.now a.under.now a.since.now loop.x wide w.row_in_range-i.ensures) w.if-i-eq-PLACES.false w.if-met-i-ne0.false loop.invariant.1.0,
+            )
         | else-id-gt0 w ↦ rw (w.met-is, w.n-is) (loop.invariant.1.0, filed_free loop.invariant.1.1 (omega (arith, wide, w.if-id-gt0.false)))
       ],
     )

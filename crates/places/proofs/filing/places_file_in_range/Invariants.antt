@@ -1,19 +1,11 @@
 -- `places::filing::places_file_in_range` meets its contract: the places before x hold rows, no two the same; those are marked, and n of them are.
-use mathlib.Core.Path.{◌≡◌, refl, subst, ◌∙◌}
-use mathlib.Core.List.{List}
-use mathlib.Core.Logic.{⊎_elim}
-use Prim.Native.Nat.{ℕ, ◌≤◌, ◌-◌}
-use native.Mathlib.Omega.{arith}
-use borrow.Author.Rules.{rules}
-use lib.ListN.{length, length-set}
-use Rattle.basics.specs.Facts.Decides.{decides_no}
-use Rattle.places.specs.Order.{triple}
+use mathlib.Core.Path.{◌≡◌}
+use Prim.Native.Nat.{◌≤◌, ◌-◌}
+use lib.ListN.{length}
 use Rattle.places.specs.Entries.{row_of}
-use Rattle.places.specs.Filing.{IsRow}
 use Rattle.basics.specs.NewIds.{at}
 use Rattle.basics.specs.Limits.{places}
-use Rattle.places.specs.Facts.Filing.{FiledTo, filed_none, filed_free, counted_few, filed_all, row_absent, row_again, row_new}
-use Rattle.places.specs.Facts.Marks.{no_marks}
+use Rattle.places.specs.Facts.Filing.{FiledTo}
 use Rattle.places.proofs.filing.places_file_in_range.Given as goal
 
 abbrev pub invariant-loop-x : goal.invariant-loop-x

@@ -1,9 +1,5 @@
 -- `places::soundness::all_within` meets its contract: every number before place i is within its bound, and one that is not ends the search.
 use Prim.Native.Nat.{◌≤◌, ◌-◌}
-use native.Mathlib.Omega.{arith}
-use borrow.Author.Count.{below_none, below_more}
-use borrow.Author.Rules.{rules}
-use Rattle.basics.specs.Facts.Decides.{decides_no, decides_yes, failed, passed}
 use Rattle.basics.specs.Below.{Below}
 use Rattle.basics.specs.NewIds.{at}
 use Rattle.basics.specs.Limits.{places}

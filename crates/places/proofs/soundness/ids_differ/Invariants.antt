@@ -1,8 +1,5 @@
 -- `places::soundness::ids_differ` meets its contract: every id before i is new, and one that is not ends the search.
 use Prim.Native.Nat.{◌≤◌, ◌-◌}
-use native.Mathlib.Omega.{arith}
-use borrow.Author.Count.{below_none, below_more}
-use Rattle.basics.specs.Facts.Decides.{decides_no, decides_yes, failed, passed}
 use Rattle.basics.specs.Below.{Below}
 use Rattle.basics.specs.NewIds.{at, New}
 use Rattle.basics.specs.Limits.{places}

@@ -1,10 +1,5 @@
 -- `places::soundness::ids_in_range` meets its contract: every id before i is in range, and one that is not ends the search.
 use Prim.Native.Nat.{◌≤◌, ◌-◌}
-use native.Mathlib.Omega.{arith}
-use borrow.Author.Count.{below_none, below_more}
-use borrow.Author.Rules.{rules}
-use native.Mathlib.Nat.{lt_irrefl, lt_of_lt_of_le}
-use Rattle.basics.specs.Facts.Decides.{decides_no, decides_yes}
 use Rattle.basics.specs.Below.{Below}
 use Rattle.basics.specs.NewIds.{at}
 use Rattle.basics.specs.Limits.{largest_id, places}

@@ -2,7 +2,6 @@
 use lib.ListN.{get_or-replicate}
 use Rattle.basics.specs.Facts.Decides.{same_as}
 use Rattle.basics.specs.Limits.{places}
-use borrow.Author.Rules.{rules}
 use Rattle.places.proofs.soundness.keys_are_within.Goals as goal
 
 pub returns : goal.returns

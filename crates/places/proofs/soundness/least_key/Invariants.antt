@@ -1,14 +1,8 @@
 -- `places::soundness::least_key` meets its contract: m is the least of the limit and the keys before i.
-use Prim.Native.Nat.{ℕ, ◌≤◌, ◌-◌}
-use native.Mathlib.Omega.{arith}
-use borrow.Author.Count.{below_none}
-use borrow.Author.Rules.{rules}
-use mathlib.Core.Path.{◌≡◌, refl, subst}
-use mathlib.Core.Logic.{inl}
+use Prim.Native.Nat.{◌≤◌, ◌-◌}
 use Rattle.basics.specs.NewIds.{at}
 use Rattle.basics.specs.Limits.{places}
 use Rattle.places.specs.Soundness.{IsLeast}
-use Rattle.places.specs.Facts.Soundness.{least_more}
 use Rattle.places.proofs.soundness.least_key.Given as goal
 
 abbrev pub invariant-loop-i : goal.invariant-loop-i

@@ -43,8 +43,7 @@ pub fn are_good(start: u32, slots: u32, ids: &[u16]) -> bool
 }
 
 // Annex 10.4, 10.5: writes a packet; 27 for a value that is not good, 28 for a buffer too short, both with nothing written.
-#[unsafe(no_mangle)]
-pub extern "C" fn packet_write<'a>(
+pub fn packet_write<'a>(
     start: u32,
     slots: u32,
     ids: &'a [u16],
@@ -85,8 +84,7 @@ fn read_refusal(packet: &[u8]) -> u32
 }
 
 // Annex 10.6, 10.7: reads a packet.
-#[unsafe(no_mangle)]
-pub extern "C" fn packet_read(packet: &[u8]) -> Header
+pub fn packet_read(packet: &[u8]) -> Header
     ensures { IsRead packet.now result }
 {
     let answer = read_refusal(packet);
@@ -117,16 +115,14 @@ pub fn packet_ids(packet: &[u8]) -> &[u8]
 }
 
 // Annex 10.8: how long that part is: C takes so many bytes from byte 6 of its packet on.
-#[unsafe(no_mangle)]
-pub extern "C" fn packet_ids_length(packet: &[u8]) -> usize
+pub fn packet_ids_length(packet: &[u8]) -> usize
     ensures { result ≡ length (ids_part packet.now) }
 {
     packet_ids(packet).len()
 }
 
 // Annex 10.10: the number of this version, so that a host or a head can refuse a library of another.
-#[unsafe(no_mangle)]
-pub extern "C" fn packet_version() -> u32
+pub fn packet_version() -> u32
     ensures { result ≡ version }
 {
     basics::VERSION

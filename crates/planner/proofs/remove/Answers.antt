@@ -1,7 +1,6 @@
 -- `planner::remove` meets its contract: refused, it hands the planner back; else the stream is taken out.
 use mathlib.Core.Path.{sym, ◌∙◌}
-use Rattle.planner.proofs.Facts.Changes.{change_refused, change_done, remove_passed}
-use borrow.Author.Rules.{rules}
+use Rattle.planner.proofs.Facts.Changes.{remove_passed}
 use Rattle.planner.proofs.remove.Goals as goal
 
 pub remove_sound-planner-requires : goal.remove_sound-planner-requires

@@ -7,8 +7,7 @@ use Rattle.basics.specs.Limits.{most_slots}
 use Rattle.basics.specs.Refusals.{answer_of}
 use Rattle.planner.specs.Round.{round_refusals}
 use Rattle.planner.specs.Needs.{CanChoose}
-use Rattle.planner.proofs.Facts.Round.{listed_fits, left_right, round_refused, can_choose, buffer_long, can_serve_all, round_held}
-use borrow.Author.Rules.{rules}
+use Rattle.planner.proofs.Facts.Round.{listed_fits, left_right, can_choose, buffer_long, can_serve_all, round_held}
 use Rattle.planner.proofs.round.Goals as goal
 
 pub choose_sound-chosen-requires : goal.choose_sound-chosen-requires
@@ -40,8 +39,7 @@ write_in_range-requires c =
 
 pub serve_sound-planner-requires : goal.serve_sound-planner-requires
 serve_sound-planner-requires c =
-    let answered : let a = c.args in c.round_refusal_tested-answer.result ≡ answer_of (round_refusals a.p a.buffer.now) = c.round_refusal_tested-answer.ensures c.args.buffer.now refl in
-    (
+    let answered : let a = c.args in c.round_refusal_tested-answer.result ≡ answer_of (round_refusals a.p a.buffer.now) = c.round_refusal_tested-answer.ensures c.args.buffer.now refl in (
       can_serve_all c.sound_start-start.ensures c.args.buffer.now answered c.if-answer-ne0.false
           c.choose_sound-chosen.ensures,
       left_right c.args.p c.sound_start-start.result c.choose_sound-chosen.ensures.0 c.list_in_range-listed.ensures,

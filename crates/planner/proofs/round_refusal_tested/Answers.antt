@@ -2,7 +2,6 @@
 use Prim.Native.Nat.{◌≤◌}
 use native.Mathlib.Omega.{arith}
 use Rattle.planner.proofs.Facts.Round.{no_sound_start, too_short, too_late, round_passes}
-use borrow.Author.Rules.{rules}
 use Rattle.planner.proofs.round_refusal_tested.Goals as goal
 
 pub returns-then-start-eq0 : goal.returns-then-start-eq0

@@ -1,6 +1,5 @@
 -- `planner::offers::add_sound` meets its contract: the table has the stream at its place, and the queue its entry.
 use Rattle.planner.proofs.Facts.Add.{can_file, taken_in}
-use borrow.Author.Rules.{rules}
 use Rattle.planner.proofs.offers.add_sound.Goals as goal
 
 pub insert_sound-queue-requires : goal.insert_sound-queue-requires

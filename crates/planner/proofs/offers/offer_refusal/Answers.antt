@@ -6,7 +6,6 @@ use Rattle.basics.specs.Refusals.{here}
 use Rattle.state.specs.Content.{content}
 use Rattle.state.specs.Sound.{Sound}
 use Rattle.planner.specs.AddRemove.{unsound, offer_refusals}
-use borrow.Author.Rules.{rules}
 use Rattle.planner.proofs.offers.offer_refusal.Goals as goal
 
 pub returns-then-sound_start-eq0 : goal.returns-then-sound_start-eq0

@@ -1,22 +1,15 @@
 -- `planner::offers::offer_refusal_sound` meets its contract: each test is for one refusal of the list, in its order.
 -- Behind a test its refusal does not apply, so what the later ones answer is the answer: that is a lemma of each such place.
 use mathlib.Core.Path.{◌≡◌}
-use mathlib.Core.List.{List, ◌∷◌}
-use Prim.Native.Nat.{ℕ}
 use native.Mathlib.Nat.{lt_irrefl, lt_of_lt_of_le, dvd_of_mod-eq-zero, mod-eq-zero_of_dvd}
-use native.Mathlib.Omega.{arith}
 use lib.ListN.{length}
-use Rattle.basics.specs.Facts.Decides.{failed, passed}
-use Rattle.basics.specs.Refusals.{Refusal, FirstOf, none, here, later}
+use Rattle.basics.specs.Refusals.{none, here, later}
 use Rattle.basics.specs.Facts.Refusals.{first_is_answer}
 use Rattle.basics.specs.OneTo.{OneTo}
 use Rattle.basics.specs.Limits.{longest_period}
-use Rattle.state.specs.Content.{content}
-use Rattle.planner.specs.AddRemove.{bad_id, id_held, full, bad_period, bad_deadline}
-use Rattle.state.proofs.Facts.Sound.{can_search}
+use Rattle.planner.specs.AddRemove.{bad_id}
 use Rattle.planner.proofs.Facts.Add.{is_full, has_room}
 use Rattle.state.proofs.Shape.{planner_shape}
-use borrow.Author.Rules.{rules}
 use Rattle.planner.proofs.offers.offer_refusal_sound.Goals as goal
 
 pub returns-then-not-is_one_to : goal.returns-then-not-is_one_to

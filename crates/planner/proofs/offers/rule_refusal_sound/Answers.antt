@@ -7,7 +7,6 @@ use Rattle.table.specs.Lengths.{IsNextStart}
 use Rattle.state.specs.Content.{content, now_of, slots_of, streams_in}
 use Rattle.planner.specs.AddRemove.{added}
 use Rattle.planner.proofs.Facts.Add.{can_test_table, can_find_table, busy_of_added, start_of_added}
-use borrow.Author.Rules.{rules}
 use Rattle.planner.proofs.offers.rule_refusal_sound.Goals as goal
 
 pub busy_length_in_range-busy-requires : goal.busy_length_in_range-busy-requires

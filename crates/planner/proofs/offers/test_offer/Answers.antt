@@ -2,7 +2,6 @@
 use mathlib.Core.Path.{sym, ◌∙◌}
 use Rattle.planner.specs.Needs.{CanTest}
 use Rattle.planner.proofs.Facts.Add.{by_offer, can_test, by_rules, can_add}
-use borrow.Author.Rules.{rules}
 use Rattle.planner.proofs.offers.test_offer.Goals as goal
 
 pub returns-then-refused-ne0 : goal.returns-then-refused-ne0

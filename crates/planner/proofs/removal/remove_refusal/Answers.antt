@@ -1,11 +1,8 @@
 -- `planner::removal::remove_refusal` meets its contract: the tests are the refusals of remove, in their order.
 use native.Mathlib.Omega.{arith}
-use Rattle.basics.specs.Facts.Decides.{failed, passed}
 use Rattle.basics.specs.Facts.Refusals.{first_is_answer}
 use Rattle.basics.specs.Refusals.{none, here, later}
 use Rattle.state.specs.Sound.{Sound}
-use Rattle.state.proofs.Facts.Sound.{can_search}
-use borrow.Author.Rules.{rules}
 use Rattle.planner.proofs.removal.remove_refusal.Goals as goal
 
 pub returns-then-sound_start-eq0 : goal.returns-then-sound_start-eq0

@@ -1,6 +1,6 @@
 -- `planner::removal::remove_sound` meets its contract: table and queue lose the same stream.
 use Rattle.planner.proofs.Facts.Files.{can_delete}
-use Rattle.planner.proofs.Facts.Changes.{can_take_out, removed_with}
+use Rattle.planner.proofs.Facts.Changes.{removed_with}
 use Rattle.planner.proofs.removal.remove_sound.Goals as goal
 
 pub delete_sound-queue-requires : goal.delete_sound-queue-requires

@@ -1,9 +1,7 @@
 -- `planner::sending::send` meets its contract: refused, it hands the planner back; else the number waits.
 use mathlib.Core.Path.{sym, ◌∙◌}
-use Rattle.planner.proofs.Facts.Changes.{change_refused, change_done}
 use Rattle.planner.proofs.Facts.Mail.{send_passed}
 use Rattle.state.proofs.Shape.{waiting_shape}
-use borrow.Author.Rules.{rules}
 use Rattle.planner.proofs.sending.send.Goals as goal
 
 pub send_sound-planner-requires : goal.send_sound-planner-requires

@@ -5,14 +5,12 @@ use native.Mathlib.Nat.{lt_irrefl}
 use native.Mathlib.Omega.{arith}
 use lib.ListN.{length}
 use Rattle.basics.specs.Limits.{most_waiting}
-use Rattle.basics.specs.Facts.Decides.{failed, passed}
 use Rattle.basics.specs.Facts.Refusals.{first_is_answer}
 use Rattle.basics.specs.Refusals.{none, here, later}
 use Rattle.messages.specs.Waiting.{IsMessage, waiting_of}
 use Rattle.messages.specs.Facts.Waiting.{waiting_length}
 use Rattle.state.specs.Sound.{Sound}
 use Rattle.state.proofs.Shape.{waiting_shape}
-use borrow.Author.Rules.{rules}
 use Rattle.planner.proofs.sending.send_refusal.Goals as goal
 
 pub returns-then-sound_start-eq0 : goal.returns-then-sound_start-eq0

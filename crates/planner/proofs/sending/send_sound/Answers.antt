@@ -1,8 +1,6 @@
 -- `planner::sending::send_sound` meets its contract: the number stands behind those that waited.
-use native.Mathlib.Omega.{arith}
 use Rattle.planner.proofs.Facts.Mail.{posted_with}
 use Rattle.state.proofs.Shape.{waiting_shape}
-use borrow.Author.Rules.{rules}
 use Rattle.planner.proofs.sending.send_sound.Goals as goal
 
 pub returns : goal.returns

@@ -1,11 +1,9 @@
 use mathlib.Core.Path.{◌≡◌, subst, subst⁻¹}
-use Prim.Native.Nat.{ℕ, ◌+◌, ◌-◌, ◌<◌}
-use native.Mathlib.Omega.{arith}
+use Prim.Native.Nat.{ℕ, ◌+◌}
 use lib.ListN.{length}
 use Rattle.basics.specs.Places.{IsPlaceAmong}
-use Rattle.basics.specs.Limits.{places, most_slots}
 use Rattle.state.specs.Content.{content, slots_of}
-use Rattle.planner.proofs.Facts.Choosing.{Visited, can_walk, can_look_up, none_visited, full_chosen, all_chosen, still_room, one_more_taken_in, one_more_skipped_in}
+use Rattle.planner.proofs.Facts.Choosing.{Visited, can_walk, can_look_up, none_visited, full_chosen, all_chosen, one_more_taken_in, one_more_skipped_in}
 use Rattle.state.proofs.Shape.{planner_shape}
 use Rattle.planner.proofs.slots.choose_sound.Goals as goal
 use Rattle.planner.proofs.slots.choose_sound.Goals.{then-stream-start, else-stream-start}
@@ -39,12 +37,12 @@ loop-i-preserved c =
     let in_row = subst (λ (n : ℕ). IsPlaceAmong ids.result n row) c.wide.ensures c.place_among_rising-row.ensures in
     let now_visited = Visited c.args.p.queue c.args.p.table (slots_of (content c.args.p)) c.args.start (c.loop-i.i + 1) in
     elim c.if-stream-start.branch [
-      then-stream-start w ↦
-        subst⁻¹ now_visited (λ i. record { placed = w.placed-is i; rows = w.rows-is i; n = w.n-is i })
-        (one_more_taken_in c.requires long c.loop-i.invariant c.loop-i-test.true order.ensures ids.ensures in_row c.if-n-p.false w.if-stream-start.true)
+      | then-stream-start w ↦
+          subst⁻¹ now_visited (λ i. record { placed = w.placed-is i; rows = w.rows-is i; n = w.n-is i })
+          (one_more_taken_in c.requires long c.loop-i.invariant c.loop-i-test.true order.ensures ids.ensures in_row c.if-n-p.false w.if-stream-start.true)
       | else-stream-start w ↦
-        subst⁻¹ now_visited (λ i. record { placed = w.placed-is i; rows = w.rows-is i; n = w.n-is i })
-        (one_more_skipped_in c.requires long c.loop-i.invariant c.loop-i-test.true order.ensures ids.ensures in_row w.if-stream-start.false)
+          subst⁻¹ now_visited (λ i. record { placed = w.placed-is i; rows = w.rows-is i; n = w.n-is i })
+          (one_more_skipped_in c.requires long c.loop-i.invariant c.loop-i-test.true order.ensures ids.ensures in_row w.if-stream-start.false)
     ]
 
 pub returns : goal.returns

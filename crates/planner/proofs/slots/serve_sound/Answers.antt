@@ -1,13 +1,10 @@
 use mathlib.Core.Path.{◌≡◌, refl, subst, subst⁻¹}
-use Prim.Native.Nat.{ℕ, ◌-◌, ◌≤◌, ◌<◌}
+use Prim.Native.Nat.{ℕ}
 use native.Mathlib.Omega.{arith}
-use lib.ListN.{get_or}
-use Rattle.basics.specs.Limits.{places, most_slots}
 use Rattle.state.specs.Content.{content}
 use Rattle.planner.specs.AddRemove.{IsSoundWith}
 use Rattle.planner.specs.Round.{left_at}
-use Rattle.planner.specs.Needs.{CanServeAll}
-use Rattle.planner.proofs.Facts.Serving.{Serving, none_served, chosen_below, row_below, can_send, one_more_served, can_move_all, all_served}
+use Rattle.planner.proofs.Facts.Serving.{Serving, none_served, can_send, one_more_served, can_move_all, all_served}
 use Rattle.state.proofs.Shape.{planner_shape}
 use Rattle.planner.proofs.slots.serve_sound.Goals as goal
 

@@ -1,15 +1,10 @@
 -- `planner::opening::open_refusal` meets its contract: the tests are the refusals of open, in their order.
 -- Behind a test its refusal does not apply, so what the later ones answer is the answer: that is a lemma of each such place.
-use mathlib.Core.List.{List, ◌∷◌}
-use Prim.Native.Nat.{ℕ}
 use native.Mathlib.Nat.{lt_irrefl, lt_of_lt_of_le}
-use Rattle.basics.specs.Facts.Decides.{failed, passed}
-use Rattle.basics.specs.Refusals.{Refusal, FirstOf, none, here, later}
+use Rattle.basics.specs.Refusals.{none, here, later}
 use Rattle.basics.specs.Facts.Refusals.{first_is_answer}
-use Rattle.basics.specs.OneTo.{not_in}
 use Rattle.state.specs.Open.{bad_slots}
-use borrow.Author.Rules.{rules}
-use Rattle.basics.specs.Limits.{last_start, most_slots, longest_frame, longest_gap}
+use Rattle.basics.specs.Limits.{last_start}
 use Rattle.state.proofs.opening.open_refusal.Goals as goal
 
 pub returns-then-not-has_slots : goal.returns-then-not-has_slots

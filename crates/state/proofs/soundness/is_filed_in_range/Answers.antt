@@ -4,7 +4,6 @@ use mathlib.Core.Path.{◌≡◌}
 use lib.ListN.{length}
 use Rattle.table.proofs.Shape.{table_shape}
 use Rattle.state.proofs.Facts.SoundTest.{can_read_dues, can_read_releases, can_file, filed_exactly}
-use borrow.Author.Rules.{rules}
 use Rattle.state.proofs.soundness.is_filed_in_range.Goals as goal
 
 pub column_in_range-dues-requires : goal.column_in_range-dues-requires

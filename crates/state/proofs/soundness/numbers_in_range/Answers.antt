@@ -2,14 +2,13 @@
 use mathlib.Core.Path.{◌≡◌, sym, ◌∙◌}
 use native.Mathlib.Omega.{arith}
 use lib.ListN.{length}
-use Rattle.basics.specs.Facts.Decides.{decides_no, same_as}
+use Rattle.basics.specs.Facts.Decides.{same_as}
 use Rattle.basics.specs.Limits.{most_waiting}
 use Rattle.basics.specs.Refusals.{answer_of}
 use Rattle.messages.specs.Facts.Waiting.{waiting_length, waiting_members, waiting_from}
 use Rattle.state.specs.Open.{open_refusals}
 use Rattle.state.proofs.Facts.Open.{open_exact}
 use Rattle.state.proofs.Shape.{waiting_shape}
-use borrow.Author.Rules.{rules}
 use Rattle.state.proofs.soundness.numbers_in_range.Goals as goal
 
 pub overflow_mul-setting : goal.overflow_mul-setting

@@ -1,13 +1,11 @@
 -- `planner::soundness::sound_start` meets its contract: each test refuses for one part of soundness, and the last gives the start.
 use Prim.Native.Nat.{◌+◌, ◌≤◌}
 use native.Mathlib.Omega.{arith}
-use Rattle.basics.specs.Facts.Decides.{failed, passed}
 use Rattle.table.specs.Range.{TableInRange}
 use Rattle.state.proofs.Facts.Open.{NumbersInRange, open_exact}
-use Rattle.state.proofs.Facts.SoundTest.{no_start, table_in_range, can_compare, can_test_demand, can_find_start, start_found}
+use Rattle.state.proofs.Facts.SoundTest.{no_start, can_compare, can_test_demand, can_find_start, start_found}
 use Rattle.state.specs.Needs.{HasNumbers}
 use Rattle.state.proofs.Refused.{has_numbers}
-use borrow.Author.Rules.{rules}
 use Rattle.state.proofs.soundness.sound_start.Goals as goal
 
 pub returns-then-not-numbers_in_range : goal.returns-then-not-numbers_in_range

@@ -1,6 +1,8 @@
 // Makes a list of random calls on one planner and prints each with its answer, as the crate calls does. Standard input is `calls SEED N`, where
 // SEED is 1 to 2,147,483,646 and N says how many calls. oracle/random_calls.rs, another implementation, states how the list is made, and
 // `oracle calls SEED N` prints the same; what is to be printed comes from there.
+#![tactic(auto)]
+
 use calls::line::line_of;
 use draws::Draws;
 use planner::Planner;

@@ -1,5 +1,5 @@
 -- What the inner functions of the crate promise one another. The records that a plan has led to stand in columns, of which only the due times change.
-use Rattle.std.specs.Prelude.{◌≡◌, Bool, true, false, ℕ, ◌+◌, ◌*◌, ◌≤◌, ◌<◌, length, get_or, drop}
+use Rattle.std.specs.Prelude.{◌≡◌, Bool, true, false, ℕ, ◌+◌, ◌≤◌, ◌<◌, length, get_or, drop}
 use mathlib.Core.List.{List, [], ◌++◌, Mem, map}
 use Rattle.basics.specs.Limits.{places, most_slots, last_start, longest_period, largest_id}
 use Rattle.basics.specs.Places.{IsPlaceAmong}

@@ -39,13 +39,7 @@ pub fn planner_open(
 }
 
 // Adds a stream to the lent planner; the answer is that of add.
-pub fn planner_add(
-    p: &mut Planner,
-    id: u32,
-    start: u32,
-    period: u32,
-    deadline: u32,
-) -> u32
+pub fn planner_add(p: &mut Planner, id: u32, start: u32, period: u32, deadline: u32) -> u32
     ensures { IsLentAdd p.old (offer id start period deadline) p.new result }
 {
     let added = planner::add(*p, id, start, period, deadline);

@@ -1,7 +1,6 @@
 -- `calls::say_elements` is safe and ends: the elements before i are printed.
 use Prim.Native.Nat.{◌≤◌, ◌-◌}
 use lib.ListN.{length}
-use borrow.Author.Rules.{rules}
 use Rattle.calls.proofs.say_elements.Given as goal
 
 abbrev pub invariant-loop-i : goal.invariant-loop-i

@@ -15,10 +15,10 @@ use Rattle.table.specs.declared.Column.{Column}
 use Rattle.table.specs.declared.Column.TheVariants.{Period, Deadline, Due, Release}
 use Rattle.packet_bytes.specs.Layout.{Values, bytes_of}
 use Rattle.packet_bytes.specs.Facts.Layout.{length_bytes}
-use Rattle.state.specs.Content.{Content, content}
+use Rattle.state.specs.Content.{content}
 use Rattle.state.specs.Sound.{Sound}
 use Rattle.state.specs.declared.Planner.{Planner}
-use Rattle.checker.specs.Plans.{sent_for, after_foreign, Passed, none, laid_out, IsSoundPlan, BreaksAt, BreaksRule}
+use Rattle.checker.specs.Plans.{sent_for, Passed, none, laid_out, IsSoundPlan, BreaksAt, BreaksRule}
 use Rattle.checker.specs.Verdicts.{finding, IsFinding, all_pass, one_breaks}
 use Rattle.checker.specs.Needs.{Regular, Columns, columns, Shown, CanCheck, reached, IsFront, IsCheckedFrom, IsChecked}
 use Rattle.checker.proofs.Facts.Passing.{passed_more, laid_out_more, passed_rise, passed_by_last, rule_stops}

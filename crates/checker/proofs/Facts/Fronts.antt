@@ -1,6 +1,6 @@
 -- The packet in front of bytes: its values are those in its bytes, and which rule it breaks first is told by tests one after the other.
 use Rattle.std.specs.Prelude.{◌≡◌, refl, ℕ, ◌+◌, ◌-◌, ◌*◌, ◌≤◌, ◌<◌, length, get_or, take, drop}
-use Rattle.std.proofs.Common.{sym, ap, subst, ◌∙◌, lt_irrefl, arith, length-append, take-append-drop, length-drop, take_at, drop_at, take-add, length-take-le, get_or-take}
+use Rattle.std.proofs.Common.{sym, ap, subst, ◌∙◌, lt_irrefl, arith, take-append-drop, length-drop, take_at, drop_at, take-add, length-take-le, get_or-take}
 use Rattle.std.proofs.Math.Path.{subst⁻¹}
 use Rattle.std.proofs.Math.Logic.{∥∥₁_elim}
 use mathlib.Core.List.{List, ◌++◌, map, exists_of_mem-map, mem-map_of_mem}

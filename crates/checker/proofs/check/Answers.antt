@@ -1,6 +1,5 @@
 -- `checker::check` meets its contract: the round that breaks a rule is the one behind those that pass.
 use native.Mathlib.Omega.{arith}
-use borrow.Author.Rules.{rules}
 use Rattle.checker.proofs.Facts.Verdicts.{verdict_of_none, verdict_of_broken, passed_fits}
 use Rattle.checker.proofs.check.Goals as goal
 

@@ -1,6 +1,4 @@
 -- `checker::find` meets its contract: a start of 0 is that of a planner that is not sound.
-use native.Mathlib.Omega.{arith}
-use borrow.Author.Rules.{rules}
 use Rattle.checker.specs.Verdicts.{refused}
 use Rattle.checker.proofs.find.Goals as goal
 

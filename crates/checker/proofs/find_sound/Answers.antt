@@ -1,13 +1,12 @@
 use mathlib.Core.Path.{◌≡◌}
 use mathlib.Core.List.{List}
-use Prim.Native.Nat.{ℕ, ◌+◌, ◌-◌, ◌≤◌}
+use Prim.Native.Nat.{ℕ, ◌+◌, ◌≤◌}
 use native.Mathlib.Omega.{arith}
 use lib.ListN.{length}
 use borrow.Author.Rules.{rules}
 use Rattle.table.specs.declared.Column.TheVariants.{Period, Deadline, Due}
 use Rattle.table.proofs.Shape.{table_holds}
-use Rattle.checker.specs.Needs.{columns}
-use Rattle.checker.proofs.Facts.Checking.{Checking, can_read, none_checked, can_check, rounds_fit, rest_checked, breaks_here, plan_passes}
+use Rattle.checker.proofs.Facts.Checking.{can_read, none_checked, rounds_fit, rest_checked, breaks_here, plan_passes}
 use Rattle.checker.proofs.Facts.Checking.{front_within, front_some, one_more_checked}
 use Rattle.checker.proofs.find_sound.Goals as goal
 

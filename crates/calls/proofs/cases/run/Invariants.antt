@@ -1,7 +1,6 @@
 -- `calls::cases::run` is safe and ends: a line begins at `at`, or the text has ended.
 use Prim.Native.Nat.{◌≤◌, ◌+◌, ◌-◌}
 use lib.ListN.{length}
-use borrow.Author.Rules.{rules}
 use Rattle.calls.proofs.cases.run.Given as goal
 
 abbrev pub invariant-loop-at : goal.invariant-loop-at

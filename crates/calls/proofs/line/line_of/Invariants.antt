@@ -1,7 +1,6 @@
 -- `calls::line::line_of` is safe and ends: the bytes before i are read.
 use Prim.Native.Nat.{◌≤◌, ◌-◌}
 use lib.ListN.{length}
-use borrow.Author.Rules.{rules}
 use Rattle.calls.proofs.line.line_of.Given as goal
 
 abbrev pub invariant-loop-i : goal.invariant-loop-i

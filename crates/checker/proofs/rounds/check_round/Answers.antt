@@ -1,9 +1,9 @@
 -- `checker::rounds::check_round` meets its contract: whatever round is in front, its values are those read here.
 use mathlib.Core.Path.{◌≡◌, sym, ap, subst, subst⁻¹, ◌∙◌}
 use mathlib.Core.List.{List, []}
-use Prim.Native.Nat.{ℕ, ◌+◌, ◌-◌, ◌*◌, ◌≤◌}
+use Prim.Native.Nat.{ℕ, ◌≤◌}
 use native.Mathlib.Omega.{arith}
-use lib.ListN.{length, get_or, take, drop}
+use lib.ListN.{length, take}
 use lib.Seq.{length-take-le}
 use borrow.Author.Rules.{rules}
 use Rattle.basics.specs.Limits.{last_start}
@@ -15,7 +15,7 @@ use Rattle.state.specs.Content.{Content}
 use Rattle.checker.specs.Plans.{HasPacket, StartsInTime, HasRoom}
 use Rattle.checker.specs.Needs.{IsHeaderRule, bare, reached}
 use Rattle.checker.proofs.Facts.Numbers.{ids_listed}
-use Rattle.checker.proofs.Facts.Fronts.{Whole, round, pairs, as_many, round_read, short_breaks, front_breaks, too_many_break, of_reached, all_three}
+use Rattle.checker.proofs.Facts.Fronts.{Whole, round, round_read, front_breaks, of_reached, all_three}
 use Rattle.checker.proofs.Facts.Slots.{served_as}
 use Rattle.checker.proofs.Facts.Fronts.{header_breaks, slots_break, round_passes}
 use Rattle.checker.proofs.rounds.check_round.Goals as goal

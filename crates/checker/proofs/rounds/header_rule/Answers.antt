@@ -1,10 +1,6 @@
 -- `checker::rounds::header_rule` meets its contract: the rules are asked for in their order, and those before a broken one are kept.
-use mathlib.Core.Path.{◌≡◌}
-use Prim.Native.Nat.{◌+◌, ◌≤◌, ◌<◌}
 use native.Mathlib.Nat.{lt_irrefl}
 use native.Mathlib.Omega.{arith}
-use borrow.Author.Rules.{rules}
-use Rattle.basics.specs.Facts.Decides.{failed, passed}
 use Rattle.checker.specs.Needs.{three_kept, not_packet, not_start, no_room}
 use Rattle.checker.proofs.rounds.header_rule.Goals as goal
 

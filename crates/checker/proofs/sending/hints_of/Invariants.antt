@@ -1,8 +1,7 @@
 -- `checker::sending::hints_of` stays within its arrays: a remainder by 1,024 is below 1,024.
-use mathlib.Core.Path.{◌≡◌, ◌∙◌}
+use mathlib.Core.Path.{◌≡◌}
 use Prim.Native.Nat.{◌≤◌, ◌-◌}
-use native.Mathlib.Omega.{arith}
-use lib.ListN.{length, length-set}
+use lib.ListN.{length}
 use Rattle.checker.proofs.sending.hints_of.Given as goal
 
 abbrev pub invariant-loop-i : goal.invariant-loop-i

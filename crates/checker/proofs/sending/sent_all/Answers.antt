@@ -1,9 +1,5 @@
-use Prim.Native.Nat.{◌≤◌, ◌-◌}
 use native.Mathlib.Omega.{arith}
-use lib.ListN.{length}
-use borrow.Author.Tests.{not-true, not-false}
-use Rattle.checker.specs.Needs.{OfShown, columns}
-use Rattle.checker.proofs.Facts.Slots.{SentTo, none_so_far, can_go_on, one_refused, one_more, all_through}
+use Rattle.checker.proofs.Facts.Slots.{one_refused, one_more, all_through}
 use Rattle.checker.proofs.sending.sent_all.Goals as goal
 
 pub returns-then-not-sent_one : goal.returns-then-not-sent_one

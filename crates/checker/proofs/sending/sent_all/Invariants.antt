@@ -1,10 +1,8 @@
 -- `checker::sending::sent_all` meets its contract: the ids before place k have been sent, from whichever records the columns show.
 use Prim.Native.Nat.{◌≤◌, ◌-◌}
-use native.Mathlib.Omega.{arith}
 use lib.ListN.{length}
-use borrow.Author.Tests.{not-true, not-false}
 use Rattle.checker.specs.Needs.{OfShown, columns}
-use Rattle.checker.proofs.Facts.Slots.{SentTo, none_so_far, can_go_on, one_refused, one_more, all_through}
+use Rattle.checker.proofs.Facts.Slots.{SentTo}
 use Rattle.checker.proofs.sending.sent_all.Given as goal
 
 abbrev pub invariant-loop-k : goal.invariant-loop-k

@@ -4,8 +4,6 @@ use mathlib.Core.Bool.{true, false}
 use Prim.Native.Nat.{ℕ, ◌+◌, ◌≤◌}
 use native.Mathlib.Omega.{arith}
 use lib.ListN.{get_or, set}
-use borrow.Author.Rules.{rules}
-use Rattle.basics.specs.Facts.Decides.{failed, passed}
 use Rattle.checker.specs.Needs.{IsSentOne, columns}
 use Rattle.checker.proofs.Facts.Columns.{columns_rise, id_refused, row_refused, next_due_fits, row_sent}
 use Rattle.checker.proofs.sending.sent_one.Goals as goal

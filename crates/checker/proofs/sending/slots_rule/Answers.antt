@@ -1,8 +1,4 @@
 -- `checker::sending::slots_rule` meets its contract: all are sent, and then the due times left are looked at.
-use Prim.Native.Nat.{◌≤◌}
-use native.Mathlib.Omega.{arith}
-use borrow.Author.Tests.{not-true, not-false}
-use Rattle.basics.specs.Facts.Decides.{failed, passed}
 use Rattle.checker.proofs.Facts.Slots.{not_served, some_over, none_over}
 use Rattle.checker.proofs.sending.slots_rule.Goals as goal
 

@@ -1,6 +1,11 @@
 // The program `accept PLANNER PLAN`: whether a plan that somebody else made is sound from a planner on. PLANNER is a script of the command program's
 // lines, which builds the planner; PLAN is the plan's packets end to end. It writes one line, the verdict, to standard output. Whatever is wrong with
 // its arguments or files is one line on standard error, and then there is no verdict.
+#![tactic(auto)]
+
+use std::env::FillError;
+use std::rt::{Env, Files};
+
 mod files;
 mod line;
 mod script;
@@ -32,11 +37,19 @@ fn say_usage() {
     );
 }
 
+// Whether there is an argument i. One that is longer than the byte is there too.
+fn is_given(rt: &impl Env, i: usize) -> bool {
+    let mut byte = [0u8; 1];
+    !matches!(rt.arg(i, &mut byte), Err(FillError::NotPresent))
+}
+
 // Whether the first argument asks for the usage.
-fn is_help() -> bool {
+fn is_help(rt: &impl Env) -> bool {
     let mut word = [0u8; 6];
-    let n = os::arg(1, &mut word);
-    n == 6 && is_word_help(word)
+    match rt.arg(1, &mut word) {
+        Ok(n) => n == 6 && is_word_help(word),
+        Err(_) => false,
+    }
 }
 
 fn is_word_help(word: [u8; 6]) -> bool {
@@ -49,8 +62,8 @@ fn is_word_help(word: [u8; 6]) -> bool {
 }
 
 // The script is read and run, then the plan is read into the same space and judged.
-fn judge(space: &mut [u8]) {
-    let script = files::read_argument(1, space);
+fn judge<R: Env + Files + Print>(rt: &R, space: &mut [u8]) {
+    let script = files::read_argument(rt, 1, space);
     if !script.is_read {
         return;
     }
@@ -59,26 +72,27 @@ fn judge(space: &mut [u8]) {
     if !built.good {
         return;
     }
-    let plan = files::read_argument(2, space);
+    let plan = files::read_argument(rt, 2, space);
     if !plan.is_read {
         return;
     }
     let n = plan.count;
-    verdict::say(built.planner, &space[..n]);
+    verdict::say(rt, built.planner, &space[..n]);
 }
 
-// Room for a file of 3,500,000 bytes; the place more shows whether one is longer. An unoptimised program has the array twice, and that still fits on
-// the usual stack of 8 MiB.
-fn main() {
-    let count = os::arg_count();
-    if count < 2 || is_help() {
+// Room for a file of 3,500,000 bytes; the place more shows whether one is longer.
+fn main(rt: HostRuntime) {
+    if !is_given(&rt, 1) || is_help(&rt) {
         say_usage();
         return;
     }
-    if count != 3 {
+    if !is_given(&rt, 2) || is_given(&rt, 3) {
         complain(b"it takes two arguments, PLANNER and PLAN; --help says more");
         return;
     }
-    let mut space = [0u8; 3500001];
-    judge(&mut space);
+    let Ok(mut space) = vec![in rt.alloc(); 0u8; 3500001] else {
+        complain(b"there is no memory to read a file into");
+        return;
+    };
+    judge(&rt, &mut space);
 }

@@ -1,6 +1,7 @@
 // The line that says what the checker found.
 ghost use Rattle.std.specs.Prelude.{◌≤◌, length};
 
+use crate::files::complain_failed;
 use crate::line::{put, put_number};
 use checker::Finding;
 use planner::Planner;
@@ -103,12 +104,12 @@ fn put_finding(line: &mut [u8], found: Finding, plan: &[u8]) -> usize
 }
 
 // Says on standard output what the checker finds of a plan. The longest line has 255 numbers of five digits.
-pub fn say(p: Planner, plan: &[u8]) {
+pub fn say(rt: &impl Print, p: Planner, plan: &[u8]) {
     let found = checker::find(p, plan);
     let mut line = [0u8; 2048];
     let end = put_finding(&mut line, found, plan);
     let end = put(&mut line, end, b"\n");
-    if !io::write_all(1, &line[..end]) {
-        os::fail(b"accept: standard output");
+    if let Err(error) = rt.write_all(&line[..end]) {
+        complain_failed(b"standard output", &error);
     }
 }

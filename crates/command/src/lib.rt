@@ -1,4 +1,6 @@
 // The command program's lines: what a line of bytes says, what the planner answers to it, and how that is written.
+#![tactic(auto)]
+
 pub use lines::{Reached, line_end_in_range, run_last_in_range, run_lines_in_range};
 pub use print::ROOM;
 pub use script::{beginning, run_script};

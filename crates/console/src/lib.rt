@@ -1,10 +1,13 @@
 // The command program: standard input to standard output, in large reads. What a line does is the library's; here lines that a read has cut
 // in two are put together again, and every answer is handed over before more is read. The system's calls stand in `system`.
+#![tactic(auto)]
+
 ghost use Rattle.std.specs.Prelude.{◌≡◌, ◌≤◌, ◌<◌, length};
 ghost use Rattle.console.specs.Session.{CanKeep, CanRefill, IsTurned};
 ghost use Rattle.console.specs.Needs.{IsBegun, CanAnswer, HasAnswered, CanAnswerLast, HasAnsweredLast, handed_over, IsMoved, IsKept, IsRefilled};
 
 use command::{ROOM, Reached};
+use std::rt::Clock;
 
 mod system;
 
@@ -111,14 +114,14 @@ fn keep_rest_in_range(s: Session, input: &mut [u8]) -> Session
 }
 
 // The rest of a line is kept, and more is read behind it. No bytes end the input; after a failed read the rest is no line.
-fn refilled_in_range(s: Session, input: &mut [u8], wrote: usize) -> Turn
+fn refilled_in_range<R: Input + Clock>(rt: &R, s: Session, input: &mut [u8], wrote: usize) -> Turn
     requires { CanRefill s input.old }
     ensures { IsRefilled s wrote input.old input.new result }
 {
     let kept = keep_rest_in_range(s, input);
     let have = kept.have;
     let reached = kept.reached;
-    let delivery = system::read_input(&mut input[have..], reached.number);
+    let delivery = system::read_input(rt, &mut input[have..], reached.number);
     let got = delivery.count;
     let session = Session {
         reached,
@@ -134,17 +137,22 @@ fn refilled_in_range(s: Session, input: &mut [u8], wrote: usize) -> Turn
 }
 
 // Whole lines are answered and the answers handed over; then more is read, unless a whole line may be left.
-fn turn_in_range(s: Session, input: &mut [u8], out: &mut [u8]) -> Turn
+fn turn_in_range<R: Input + Print + Clock>(
+    rt: &R,
+    s: Session,
+    input: &mut [u8],
+    out: &mut [u8],
+) -> Turn
     requires { CanAnswer s input.old out.old }
     ensures { IsTurned s input.old input.new out.new result }
 {
     let answered = answer_lines_in_range(s, input, out);
     let reached = answered.reached;
     let wrote = reached.end;
-    let is_written = system::write_answers(&out[..wrote], reached.number);
+    let is_written = system::write_answers(rt, &out[..wrote], reached.number);
     let session = handed_over(answered);
     if is_written && ROOM <= out.len() - wrote {
-        return refilled_in_range(session, input, wrote);
+        return refilled_in_range(rt, session, input, wrote);
     }
     Turn {
         session,
@@ -156,13 +164,13 @@ fn turn_in_range(s: Session, input: &mut [u8], out: &mut [u8]) -> Turn
 }
 
 // What is left at the end of the input is answered, and the answer handed over.
-fn finish_in_range(s: Session, input: &[u8], out: &mut [u8])
+fn finish_in_range<R: Print + Clock>(rt: &R, s: Session, input: &[u8], out: &mut [u8])
     requires { CanAnswerLast s input.now out.old }
 {
     let last = answer_last_in_range(s, input, out);
     let reached = last.reached;
     let end = reached.end;
-    system::write_answers(&out[..end], reached.number);
+    system::write_answers(rt, &out[..end], reached.number);
 }
 
 // One turn fewer, or none where the run does not go on.
@@ -178,7 +186,7 @@ fn turns_left_in_range(turns: u64, more: bool) -> u64
 
 // A proved loop has to end, and nothing says that the input does: so the turns count down from a number that no run uses up. It also keeps
 // line numbers below 64 bits.
-pub fn run() {
+pub fn run<R: Input + Print + Clock>(rt: &R) {
     let mut input = io::large_buffer();
     let mut out = io::large_buffer();
     let mut s = begun();
@@ -186,14 +194,14 @@ pub fn run() {
     let mut ended = false;
     let mut turns: u64 = 140737488355328;
     while 0 < turns {
-        let turn = turn_in_range(s, &mut input, &mut out);
+        let turn = turn_in_range(rt, s, &mut input, &mut out);
         s = turn.session;
         more = turn.more;
         ended = turn.ended;
         turns = turns_left_in_range(turns, more);
     }
     if ended {
-        finish_in_range(s, &input, &mut out);
+        finish_in_range(rt, s, &input, &mut out);
     }
     if more {
         let reached = s.reached;

@@ -1,7 +1,11 @@
 // The system's calls: reading, writing, and a line on standard error where they cannot go on. What they deliver and do lies outside the contracts.
-ghost use Rattle.std.specs.Prelude.{◌≤◌, length};
-ghost use Rattle.libc.specs.Io.{Moved};
+ghost use Rattle.std.specs.Prelude.{◌≤◌, length, IfOk};
 ghost use Rattle.console.specs.Needs.{IsDelivery};
+
+use std::io::{Error, ErrorKind, Read, Result};
+use std::rt::Clock;
+use std::thread;
+use std::time::Duration;
 
 // How many bytes were read, and whether the input has ended. A read that failed delivers none and ends nothing.
 #[derive(Clone, Copy)]
@@ -11,26 +15,18 @@ pub struct Delivery {
 }
 
 // Lets a thousandth of a second pass.
-fn rest() {
-    let asked = libc::types::timespec {
-        tv_sec: 0,
-        tv_nsec: 1000000,
-    };
-    let mut left = libc::types::timespec {
-        tv_sec: 0,
-        tv_nsec: 0,
-    };
-    libc::nanosleep(&asked, &mut left);
+fn rest(rt: &impl Clock) {
+    thread::sleep(rt, Duration::from_millis(1));
 }
 
 // Whether a call that has just failed is to be made again: it was interrupted, or it would have had to wait, and a moment has passed.
-fn is_to_be_tried_again() -> bool {
-    let error = os::errno();
-    if error == libc::EAGAIN {
-        rest();
+fn is_to_be_tried_again(rt: &impl Clock, error: &Error) -> bool {
+    let kind = error.kind();
+    if kind == ErrorKind::WouldBlock {
+        rest(rt);
         return true;
     }
-    error == libc::EINTR
+    kind == ErrorKind::Interrupted
 }
 
 // A line on standard error: what cannot go on, and the number of the last line answered.
@@ -46,68 +42,71 @@ pub fn say_used_up(number: u64) {
     say(b"the turns of one run are used up", number);
 }
 
-// Reads at least one byte, and answers how many; 0 where the input has ended, -1 where the read failed.
-fn read_some(buffer: &mut [u8]) -> isize
-    ensures { Moved (length buffer.old) result }
+// Reads at least one byte, and answers how many; 0 where the input has ended, an error where the read failed.
+fn read_some<R: Input + Clock>(rt: &R, buffer: &mut [u8]) -> Result<usize>
+    ensures { IfOk result (λ n. n ≤ length buffer.old) }
 {
+    let mut reader = rt.reader();
     let mut tries: u64 = 18446744073709551615;
     while 0 < tries {
-        let got = libc::read(0, buffer);
-        if 0 <= got {
-            return got;
-        }
-        if !is_to_be_tried_again() {
-            return got;
+        match reader.read(buffer) {
+            Ok(got) => return Ok(got),
+            Err(error) => {
+                if !is_to_be_tried_again(rt, &error) {
+                    return Err(error);
+                }
+            }
         }
         tries -= 1;
     }
-    -1
+    Err(Error::from(ErrorKind::TimedOut))
 }
 
 // The same as a delivery; a failed read is said.
-pub fn read_input(buffer: &mut [u8], number: u64) -> Delivery
+pub fn read_input<R: Input + Clock>(rt: &R, buffer: &mut [u8], number: u64) -> Delivery
     ensures { IsDelivery (length buffer.old) result }
 {
-    let got = read_some(buffer);
-    if got < 0 {
-        say(b"standard input cannot be read on", number);
-        return Delivery {
-            count: 0,
-            ended: false,
-        };
-    }
-    let count = io::count(got, buffer);
-    Delivery {
-        count,
-        ended: count == 0,
+    match read_some(rt, buffer) {
+        Ok(count) => Delivery {
+            count,
+            ended: count == 0,
+        },
+        Err(_) => {
+            say(b"standard input cannot be read on", number);
+            Delivery {
+                count: 0,
+                ended: false,
+            }
+        }
     }
 }
 
-// Writes at least one byte, and answers how many; -1 where the write failed.
-fn write_some(bytes: &[u8]) -> isize
-    ensures { Moved (length bytes.now) result }
+// Writes at least one byte, and answers how many; an error where the write failed.
+fn write_some<R: Print + Clock>(rt: &R, bytes: &[u8]) -> Result<usize>
+    ensures { IfOk result (λ n. n ≤ length bytes.now) }
 {
     let mut tries: u64 = 18446744073709551615;
     while 0 < tries {
-        let put = libc::write(1, bytes);
-        if 0 <= put {
-            return put;
-        }
-        if !is_to_be_tried_again() {
-            return put;
+        match rt.write_some(bytes) {
+            Ok(put) => return Ok(put),
+            Err(error) => {
+                if !is_to_be_tried_again(rt, &error) {
+                    return Err(error);
+                }
+            }
         }
         tries -= 1;
     }
-    -1
+    Err(Error::from(ErrorKind::TimedOut))
 }
 
 // Writes the bytes, and answers how many were written: fewer than all where the output cannot be written on.
-fn write_most(bytes: &[u8]) -> usize
+fn write_most<R: Print + Clock>(rt: &R, bytes: &[u8]) -> usize
     ensures { result ≤ length bytes.now }
 {
     let mut done: usize = 0;
     while done < bytes.len() {
-        let put = io::count(write_some(&bytes[done..]), &bytes[done..]);
+        let put = write_some(rt, &bytes[done..]).unwrap_or(0);
         if put == 0 {
             return done;
         }
@@ -138,8 +137,8 @@ fn less(number: u64, few: u64) -> u64 {
 }
 
 // Writes answers, the last of them to line `number`, and answers whether all were written. A line counts as answered once its answer is written with its end.
-pub fn write_answers(answers: &[u8], number: u64) -> bool {
-    let done = write_most(answers);
+pub fn write_answers<R: Print + Clock>(rt: &R, answers: &[u8], number: u64) -> bool {
+    let done = write_most(rt, answers);
     if done == answers.len() {
         return true;
     }

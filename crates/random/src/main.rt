@@ -1,4 +1,4 @@
 // The command program over random scripts; the expected output is that of oracle/, another implementation.
-fn main() {
-    console::run();
+fn main(rt: HostRuntime) {
+    console::run(&rt);
 }

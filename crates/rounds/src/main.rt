@@ -1,4 +1,4 @@
 // The command program.
-fn main() {
-    console::run();
+fn main(rt: HostRuntime) {
+    console::run(&rt);
 }

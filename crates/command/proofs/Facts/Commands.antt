@@ -9,9 +9,11 @@ use Rattle.command.specs.declared.reading.Fields.{Fields}
 
 -- the first numbers, one by one
 first_one : (ns : List ℕ) → 1 ≤ length ns → take 1 ns ≡ get_or ns 0 0 ∷ []
+first_one [] long = elim long [ ]
 first_one (a ∷ ns) long = refl
 
 first_four : (ns : List ℕ) → 4 ≤ length ns → take 4 ns ≡ get_or ns 0 0 ∷ get_or ns 1 0 ∷ get_or ns 2 0 ∷ get_or ns 3 0 ∷ []
+first_four [] long = elim long [ ]
 first_four (a ∷ []) long = absurd (lt_irrefl 0 (omega arith))
 first_four (a ∷ b ∷ []) long = absurd (lt_irrefl 0 (omega arith))
 first_four (a ∷ b ∷ c ∷ []) long = absurd (lt_irrefl 0 (omega arith))

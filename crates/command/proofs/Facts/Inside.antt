@@ -34,14 +34,14 @@ put_inside {out = out} {mid} {at = at} {r} inside put within =
     }
 
 -- a run keeps the buffer's length ..
-pub run_length : {bytes out w : List ℕ} {s t : Reached} → Reaches bytes s out t w → length w ≡ length out
+pub run_length : {bytes out : List ℕ} {s t : Reached} {w : List ℕ} → Reaches bytes s out t w → length w ≡ length out
 run_length none = refl
 run_length (one_more {t} run to line_end inside free after r is) =
     let so_far = run_length run in
     put_length is.written (omega (arith, is.in_room)) ∙ so_far
 
 -- .. and from inside the buffer on it stays there
-run_inside : {bytes out w : List ℕ} {s t : Reached} → s.end ≤ length out → Reaches bytes s out t w → StaysInside out w t.end
+run_inside : {bytes out : List ℕ} {s t : Reached} {w : List ℕ} → s.end ≤ length out → Reaches bytes s out t w → StaysInside out w t.end
 run_inside begun none = record { within = begun; same_length = refl; behind = refl }
 run_inside begun (one_more run to line_end inside free after r is) = put_inside (run_inside begun run) is.written (omega (arith, is.in_room))
 

@@ -46,7 +46,7 @@ level_back level =
     }
 
 -- line numbers grow in a run
-number_grows : {bytes out w : List ℕ} {s t : Reached} → Reaches bytes s out t w → s.number ≤ t.number
+number_grows : {bytes out : List ℕ} {s t : Reached} {w : List ℕ} → Reaches bytes s out t w → s.number ≤ t.number
 number_grows {s = s} none = omega arith
 number_grows (one_more run to line_end inside free after r is) = omega (arith, number_grows run)
 

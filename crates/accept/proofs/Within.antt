@@ -1,6 +1,6 @@
 -- What the checker found of a plan lies within its bytes: the round that breaks a rule begins where those before it end.
 use mathlib.Core.Path.{ap}
-use mathlib.Core.List.{List, ◌++◌}
+use mathlib.Core.List.{List}
 use Prim.Native.Nat.{ℕ, ◌≤◌, zero-le}
 use native.Mathlib.Nat.{le_refl}
 use native.Mathlib.Omega.{arith}

@@ -1,5 +1,5 @@
 -- The planner that a script builds.
-use Rattle.std.specs.Prelude.{◌≡◌, true, false, List, ℕ, ◌+◌, ◌≤◌, ◌<◌, length}
+use Rattle.std.specs.Prelude.{true, false, List, ℕ, ◌+◌, ◌≤◌, ◌<◌, length}
 use Rattle.state.specs.Open.{zeros, IsFresh}
 use Rattle.state.specs.declared.Planner.{Planner}
 use Rattle.command.specs.Lines.{IsLineEnd}

@@ -146,7 +146,7 @@ module _ {p : Planner} {number : ℕ} {line before after : List ℕ} {at : ℕ} 
   step_answer = is.written.property
 
 -- lines that were run, from an empty output on, are told, and the output keeps its length
-pub run_told : {bytes out after : List ℕ} {s t : Reached} → Reaches bytes s out t after → s.end ≡ 0 → t.end ≤ length out → (read written : List ℕ)
+pub run_told : {bytes out : List ℕ} {s t : Reached} {after : List ℕ} → Reaches bytes s out t after → s.end ≡ 0 → t.end ≤ length out → (read written : List ℕ)
     → Told read written s.planner s.number (drop s.from bytes)
     → (length after ≡ length out) × Told read (written ++ take t.end after) t.planner t.number (drop t.from bytes)
 run_told {bytes} {out} {s = s} reached_none empty within read written told =

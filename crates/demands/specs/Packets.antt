@@ -1,6 +1,5 @@
 -- What a held round answers is always a good packet, so that a host's writer never answers 27 to it.
 use Rattle.std.specs.Prelude.{◌≡◌, List, ℕ, ◌+◌, ◌*◌, ◌≤◌, ◌<◌, length, take}
-use Rattle.rules.specs.Slots.{slots}
 use Rattle.state.specs.declared.Planner.{Planner}
 use Rattle.planner.specs.declared.Rounded.{Rounded}
 use Rattle.packet_bytes.specs.Layout.{Values}

@@ -3,7 +3,7 @@ use Rattle.std.specs.Prelude.{◌≡◌, ◌↔◌, List, [], ◌++◌, map, ℕ
 use Rattle.std.proofs.Math.Logic.{◌∨₁◌}
 use Rattle.basics.specs.Limits.{last_start}
 use Rattle.rules.specs.Streams.{Packet, at_zero}
-use Rattle.rules.specs.Slots.{IsSlots, slots}
+use Rattle.rules.specs.Slots.{IsSlots}
 use Rattle.rules.specs.Plans.{Servable}
 use Rattle.state.specs.Content.{Content, content, now_of, cap_of, with_last, with_waiting, slots_of, streams_in}
 use Rattle.state.specs.Sound.{Sound}

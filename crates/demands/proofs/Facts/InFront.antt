@@ -6,7 +6,7 @@ use Rattle.std.proofs.Math.Logic.{∥∥₁_elim, ∥∥₁_map}
 use Rattle.std.proofs.Math.Logic.Dec.{not as Dec-not}
 use mathlib.Core.HLevel.{×_prop, Π_prop}
 use mathlib.Core.List.Pairwise
-use mathlib.Core.List.{List, Mem, Nodup, map, map-map, filter, filter_map, dec_mem}
+use mathlib.Core.List.{List, Mem, Nodup, map, map-map, filter, filter-map, dec_mem}
 use mathlib.Core.List.{mem-filter, mem-map, mem-map_of_mem}
 use mathlib.Mathlib.Data.List.Nodup.{of_map}
 use Prim.Native.Nat.{ℕ, zero, suc, ◌+◌, ◌-◌, ◌≤◌, ◌<◌}
@@ -79,7 +79,7 @@ module _ (h : Content) (v : Values) (passes : Passes h v) (differ : IdsDiffer h)
 
   -- the ids sent are those of the table that are listed
   numbers_sent : map (λ (x : Stream). x.number) (chosen_by h v) ≡ filter (is_listed v) (map (λ (x : Stream). x.number) (streams_in h))
-  numbers_sent = sym (filter_map (is_listed v) (λ (x : Stream). x.number) (streams_in h))
+  numbers_sent = sym (filter-map (is_listed v) (λ (x : Stream). x.number) (streams_in h))
 
   numbers_differ : Nodup (map (λ (x : Stream). x.number) (chosen_by h v))
   numbers_differ = subst⁻¹ Nodup numbers_sent (Pairwise.filter (is_listed v) differ)

@@ -1,18 +1,16 @@
 -- Messages leave first come first out, and each in its turn.
-use Rattle.std.specs.Prelude.{◌≡◌, refl, List, [], ◌∷◌, ◌++◌, ℕ, ◌≤◌, ◌<◌, length, take, drop}
-use Rattle.std.proofs.Common.{sym, ap, subst, ◌∙◌, arith}
+use Rattle.std.specs.Prelude.{◌≡◌, refl, List, [], ◌∷◌, ◌++◌, ℕ, ◌≤◌, length, take, drop}
+use Rattle.std.proofs.Common.{ap, ◌∙◌, arith}
 use Rattle.std.proofs.Math.Path.{subst⁻¹}
 use Rattle.std.proofs.Math.Decide.{ℕ_discrete}
 use Rattle.std.proofs.Math.Seq.{take-nil, drop-nil}
 use Rattle.basics.specs.Refusals.{Refusal}
 use Rattle.state.specs.Content.{Content, content}
-use Rattle.state.specs.Sound.{MailInRange, ContentSound, Sound}
-use Rattle.planner.specs.AddRemove.{IsChange}
-use Rattle.planner.specs.Round.{free_at, IsHeldRound}
-use Rattle.planner.proofs.Facts.Calls.{refused_change, success_change, change_keeps_sound, refused_round, success_round}
+use Rattle.state.specs.Sound.{ContentSound, Sound}
+use Rattle.planner.specs.Round.{free_at}
+use Rattle.planner.proofs.Facts.Calls.{refused_change, success_change, refused_round, success_round}
 use Rattle.planner.proofs.Facts.Listed.{slot_free}
 use Rattle.state.specs.declared.Planner.{Planner}
-use Rattle.state.specs.declared.Changed.{Changed}
 use Rattle.demands.specs.CallLists.{Asked, add, remove}
 use Rattle.demands.specs.Mail.{MailCalls, none, asked, not_sent, sent, not_held, held, FirstOut, LeavesInTurn}
 use Rattle.demands.proofs.Facts.Written.{messages_written}

@@ -2,7 +2,7 @@
 use Rattle.std.specs.Prelude.{◌≡◌, refl, List, ℕ}
 use Rattle.std.proofs.Common.{sym, ◌∙◌}
 use Rattle.basics.specs.Refusals.{none, here, later}
-use Rattle.state.specs.Open.{zeros, opened, IsFresh, IsOpened}
+use Rattle.state.specs.Open.{zeros, IsFresh, IsOpened}
 use Rattle.planner.specs.AddRemove.{unsound, IsAdd, IsRemove}
 use Rattle.planner.specs.Send.{IsSend}
 use Rattle.planner.specs.Round.{IsRound}

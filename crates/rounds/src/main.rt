@@ -1,4 +1,6 @@
 // The command program.
+#![tactic(auto)]
+
 fn main(rt: HostRuntime) {
     console::run(&rt);
 }

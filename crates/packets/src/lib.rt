@@ -43,12 +43,7 @@ pub fn are_good(start: u32, slots: u32, ids: &[u16]) -> bool
 }
 
 // Annex 10.4, 10.5: writes a packet; 27 for a value that is not good, 28 for a buffer too short, both with nothing written.
-pub fn packet_write<'a>(
-    start: u32,
-    slots: u32,
-    ids: &'a [u16],
-    packet: &'a mut [u8],
-) -> u32
+pub fn packet_write<'a>(start: u32, slots: u32, ids: &'a [u16], packet: &'a mut [u8]) -> u32
     ensures { IsWritten (record { start = start; slots = slots; ids = ids.now }) packet.old packet.new result }
 {
     if !are_good(start, slots, ids) {

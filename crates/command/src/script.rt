@@ -28,8 +28,7 @@ pub fn beginning() -> Reached
 }
 
 // Runs a script and answers how many bytes it wrote. It stops before a line for whose answer fewer than 1,430 bytes are left.
-#[unsafe(no_mangle)]
-pub extern "C" fn run_script(script: &[u8], out: &mut [u8]) -> usize
+pub fn run_script(script: &[u8], out: &mut [u8]) -> usize
     ensures { IsScript script.now out.old out.new result }
 {
     let start = beginning();

@@ -10,8 +10,7 @@ ghost use Rattle.planner.specs.Needs.{IsRoundAnswer};
 use basics::LAST_START;
 pub use offers::add;
 pub use sending::send;
-use state::sound_start;
-pub use state::{Changed, Planner, Setting, open};
+pub use state::{Changed, Planner, Setting, open, sound_start};
 
 mod offers;
 mod removal;

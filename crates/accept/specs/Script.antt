@@ -1,11 +1,11 @@
 -- The planner that a script builds.
-use Rattle.std.specs.Prelude.{true, false, List, ℕ, ◌+◌, ◌≤◌, ◌<◌, length}
+use Rattle.std.specs.Prelude.{List, ℕ, ◌+◌, ◌≤◌, ◌<◌, length}
 use Rattle.state.specs.Open.{zeros, IsFresh}
 use Rattle.state.specs.declared.Planner.{Planner}
 use Rattle.command.specs.Lines.{IsLineEnd}
 use Rattle.command.specs.Runs.{part_of}
 use Rattle.command.specs.Step.{IsAnswer}
-use Rattle.accept.specs.declared.script.Built.{Built}
+use Rattle.accept.specs.declared.script.Undone.{Undone}
 
 -- Annex 14.17: a line is run as the command program runs it, whatever its answer.
 pub record IsRun (p : Planner) (number : ℕ) (line : List ℕ) (after : Planner) : Type 0 where
@@ -25,7 +25,7 @@ pub record IsPlannerOf (script : List ℕ) (p : Planner) : Type 0 where
   pub all : length script ≤ place
   pub left : Leaves script place lines p
 
--- Annex 14.17: the script's planner; or none, where a line was not done.
-pub data IsBuilt (script : List ℕ) : Built → Type 0 where
-  whole : {p : Planner} → IsPlannerOf script p → IsBuilt script (record { good = true; planner = p })
-  stopped : {p : Planner} → IsBuilt script (record { good = false; planner = p })
+-- Annex 14.17: where a line was not done: its number, and the planner that the lines up to it leave.
+pub record IsUndone (script : List ℕ) (undone : Undone) : Type 0 where
+  pub place : ℕ
+  pub left : Leaves script place undone.number undone.planner

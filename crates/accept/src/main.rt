@@ -4,38 +4,18 @@
 #![tactic(auto)]
 
 use std::env::FillError;
-use std::rt::{Env, Files};
+use std::rt::Env;
 
+mod complaint;
 mod files;
-mod line;
 mod script;
 mod verdict;
 
-fn complain(what: &[u8]) {
-    io::write_all(2, b"accept: ");
-    io::write_all(2, what);
-    io::write_all(2, b"\n");
-}
-
-fn say_usage() {
-    io::write_all(2, b"usage: accept PLANNER PLAN\n");
-    io::write_all(
-        2,
-        b"  PLANNER  a script of the command program that builds the planner to begin from\n",
-    );
-    io::write_all(
-        2,
-        b"  PLAN     the plan's packets end to end; neither file may have more than 3500000 bytes\n",
-    );
-    io::write_all(
-        2,
-        b"It writes one line: sound, and how many rounds; or the first round that breaks a rule,\n",
-    );
-    io::write_all(
-        2,
-        b"what is in it, and which rule (annex, chapter 14); or that the planner is not sound.\n",
-    );
-}
+const USAGE: &str = "usage: accept PLANNER PLAN
+  PLANNER  a script of the command program that builds the planner to begin from
+  PLAN     the plan's packets end to end; neither file may have more than 3500000 bytes
+It writes one line: sound, and how many rounds; or the first round that breaks a rule,
+what is in it, and which rule (annex, chapter 14); or that the planner is not sound.";
 
 // Whether there is an argument i. One that is longer than the byte is there too.
 fn is_given(rt: &impl Env, i: usize) -> bool {
@@ -46,53 +26,36 @@ fn is_given(rt: &impl Env, i: usize) -> bool {
 // Whether the first argument asks for the usage.
 fn is_help(rt: &impl Env) -> bool {
     let mut word = [0u8; 6];
-    match rt.arg(1, &mut word) {
-        Ok(n) => n == 6 && is_word_help(word),
-        Err(_) => false,
-    }
-}
-
-fn is_word_help(word: [u8; 6]) -> bool {
-    word[0] == b'-'
-        && word[1] == b'-'
-        && word[2] == b'h'
-        && word[3] == b'e'
-        && word[4] == b'l'
-        && word[5] == b'p'
+    matches!(rt.arg(1, &mut word), Ok(n) if &word[..n] == b"--help".as_slice())
 }
 
 // The script is read and run, then the plan is read into the same space and judged.
-fn judge<R: Env + Files + Print>(rt: &R, space: &mut [u8]) {
-    let script = files::read_argument(rt, 1, space);
-    if !script.is_read {
+fn judge(rt: HostRuntime, space: &mut [u8]) {
+    let Some(n) = files::read_argument(rt, 1, space) else {
         return;
-    }
-    let n = script.count;
-    let built = script::planner_of(&space[..n]);
-    if !built.good {
+    };
+    let Ok(planner) = script::planner_of(rt, &space[..n]) else {
         return;
-    }
-    let plan = files::read_argument(rt, 2, space);
-    if !plan.is_read {
+    };
+    let Some(n) = files::read_argument(rt, 2, space) else {
         return;
-    }
-    let n = plan.count;
-    verdict::say(rt, built.planner, &space[..n]);
+    };
+    verdict::say(rt, planner, &space[..n]);
 }
 
 // Room for a file of 3,500,000 bytes; the place more shows whether one is longer.
 fn main(rt: HostRuntime) {
     if !is_given(&rt, 1) || is_help(&rt) {
-        say_usage();
+        let _ = eprintln!(rt; "{USAGE}");
         return;
     }
     if !is_given(&rt, 2) || is_given(&rt, 3) {
-        complain(b"it takes two arguments, PLANNER and PLAN; --help says more");
+        let _ = eprintln!(rt; "accept: it takes two arguments, PLANNER and PLAN; --help says more");
         return;
     }
     let Ok(mut space) = vec![in rt.alloc(); 0u8; 3500001] else {
-        complain(b"there is no memory to read a file into");
+        let _ = eprintln!(rt; "accept: there is no memory to read a file into");
         return;
     };
-    judge(&rt, &mut space);
+    judge(rt, &mut space);
 }

@@ -2,7 +2,6 @@
 pub mod Sorted
 pub mod Members
 pub mod Places
-pub mod NewIds
 pub mod Decides
 pub mod Lexicographic
 pub mod Refusals

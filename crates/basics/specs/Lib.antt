@@ -1,6 +1,7 @@
 -- Notions that several crates share. A reader has to believe Refusals, Lexicographic, Limits, OneTo, Counts and Version. The others are what inner
 -- functions promise one another, and Facts is proved.
 pub mod Refusals
+pub mod Answers
 pub mod Lexicographic
 pub mod Limits
 pub mod OneTo

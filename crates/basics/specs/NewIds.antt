@@ -9,8 +9,3 @@ at l i = get_or l i 0
 -- The id at place i, if there is one, stands at no place before it.
 abbrev pub New : (ids : ℕ → ℕ) → ℕ → Type 0
 New ids i = 1 ≤ ids i → Below i (λ j. ids j ≡ ids i → ⊥)
-
--- r is 1 for two numbers that are the same, else 0.
-pub record IsSame (a b r : ℕ) : Type 0 where
-  pub same : a ≡ b → r ≡ 1
-  pub other : (a ≡ b → ⊥) → r ≡ 0

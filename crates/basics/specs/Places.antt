@@ -1,5 +1,5 @@
 -- The place of a number among 64 that rise.
-use Rattle.std.specs.Prelude.{◌≡◌, List, ℕ, ◌+◌, ◌≤◌, ◌<◌, get_or}
+use Rattle.std.specs.Prelude.{List, ℕ, ◌≤◌, ◌<◌, get_or}
 
 -- The first 64 numbers rise, or stay equal, from place to place.
 abbrev pub Rises : List ℕ → Type 0
@@ -10,8 +10,3 @@ pub record IsPlaceAmong (vs : List ℕ) (x r : ℕ) : Type 0 where
   pub within : r < 64
   pub less : (j : ℕ) → j < r → get_or vs j 0 < x
   pub rest : (j : ℕ) → r ≤ j → j < 63 → x ≤ get_or vs j 0
-
--- The lower end moves up by a step if the number there is less than x.
-pub record IsUpper (low step there x r : ℕ) : Type 0 where
-  pub less : there < x → r ≡ low + step
-  pub rest : x ≤ there → r ≡ low

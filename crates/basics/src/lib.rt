@@ -1,13 +1,17 @@
-// Notions that several crates share: deciding, refusals in order, lists in order, an order by three numbers, a number's place among 64 that rise,
-// an id that stands at no earlier place among 64, a number in more bits, and the version.
+// Notions that several crates share: deciding, refusals in order and their numbers, an order by three numbers, the place of a number among 64 that rise,
+// an id that stands at no earlier place among 64, and the version.
 #![tactic(auto)]
 
 ghost use Rattle.std.specs.Prelude.{◌≡◌, ◌+◌, ◌≤◌, ◌<◌};
 ghost use Rattle.basics.specs.Decides.{Decides};
 ghost use Rattle.basics.specs.Lexicographic.{Then};
-ghost use Rattle.basics.specs.NewIds.{at, New, IsSame};
+ghost use Rattle.basics.specs.NewIds.{at, New};
 ghost use Rattle.basics.specs.OneTo.{OneTo};
-ghost use Rattle.basics.specs.Places.{Rises, IsPlaceAmong, IsUpper};
+ghost use Rattle.basics.specs.Places.{Rises, IsPlaceAmong};
+
+pub use refusals::{Refusal, answer};
+
+mod refusals;
 
 // Limits that several crates share: no round starts later than the last start; a table and a queue have so many places; a round has at most so
 // many slots; no id, superframe, gap or period is larger; no release is further after now; a message is no smaller and no larger than these, and so
@@ -59,17 +63,7 @@ pub const VERSION: u32 = 8;
 pub fn is_one_to(n: u32, most: u32) -> bool
     ensures { Decides result (OneTo most n) }
 {
-    if n < 1 {
-        return false;
-    }
-    n <= most
-}
-
-// A number of 16 bits in 32.
-pub fn wide(x: u16) -> u32
-    ensures { result ≡ x }
-{
-    x as u32
+    (1..=most).contains(&n)
 }
 
 // Whether three numbers come after three others: by the first, where these are equal by the second, and where those are equal too by the third.
@@ -83,54 +77,15 @@ pub fn is_after(
 ) -> bool
     ensures { Decides result (Then than_first first (Then than_second second (than_third < third))) }
 {
-    if than_first < first {
-        return true;
-    }
-    if first < than_first {
-        return false;
-    }
-    if than_second < second {
-        return true;
-    }
-    if second < than_second {
-        return false;
-    }
-    than_third < third
+    (than_first, than_second, than_third) < (first, second, third)
 }
 
-// The lower end for the next half: past this one if it ends below x.
-fn upper(low: usize, step: usize, there: u32, x: u32) -> usize
-    requires { low + step ≤ 64 }
-    ensures { IsUpper low step there x result }
-{
-    if there < x {
-        return low + step;
-    }
-    low
-}
-
-// How many of 64 rising numbers are less than x, 63 at most, found by halving.
+// How many of 64 rising numbers are less than x, 63 at most: the last one need not be looked at.
 pub fn place_among_rising(values: &[u32; 64], x: u32) -> usize
     requires { Rises values.now }
     ensures { IsPlaceAmong values.now x result }
 {
-    let mut low: usize = 0;
-    let mut step: usize = 64;
-    while 1 < step {
-        step = step / 2;
-        low = upper(low, step, values[low + (step - 1)], x);
-    }
-    low
-}
-
-// 1 for two ids that are the same.
-fn same_id(a: u16, b: u16) -> u16
-    ensures { IsSame a b result }
-{
-    if a == b {
-        return 1;
-    }
-    0
+    values[..63].partition_point(|value| *value < x)
 }
 
 // Whether the id at place i, if there is one, stands at no earlier place. Every earlier place is looked at, also past one with the id: a loop
@@ -143,11 +98,9 @@ pub fn is_new_at(ids: &[u16; 64], i: usize) -> bool
     if id < 1 {
         return true;
     }
-    let mut n: u16 = 0;
-    let mut j: usize = 0;
-    while j < i {
-        n += same_id(ids[j], id);
-        j += 1;
+    let mut met = false;
+    for earlier in &ids[..i] {
+        met |= *earlier == id;
     }
-    n == 0
+    !met
 }

@@ -26,8 +26,7 @@ pub fn is_in_below_1024(words: &[u64; 16], x: u16) -> bool
     requires { x < 1_024 }
     ensures { Decides result (InWords words.now x) }
 {
-    let word = (x / 64) as usize;
-    is_in_below_64(words[word], (x % 64) as u32)
+    is_in_below_64(words[usize::from(x / 64)], u32::from(x % 64))
 }
 
 // Puts x into the set of 16 words.
@@ -35,6 +34,6 @@ pub fn put_below_1024(words: &mut [u64; 16], x: u16)
     requires { (x < 1_024) × (length words.old ≡ 16) }
     ensures { IsWordsWith words.old x words.new }
 {
-    let word = (x / 64) as usize;
-    words[word] = with_below_64(words[word], (x % 64) as u32);
+    let word = &mut words[usize::from(x / 64)];
+    *word = with_below_64(*word, u32::from(x % 64));
 }

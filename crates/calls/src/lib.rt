@@ -6,19 +6,22 @@
 //   R LENGTH: ANSWER START N ELEMENT ..     with a buffer of LENGTH elements, each of which was 0; all of them are printed
 //   C,BYTES: ANSWER ROUND PASSED RULE AT    of a plan in hex, the verdict, and behind it what was found: how many rounds passed, which rule the
 //                                           next one breaks, and how many bytes passed
-// A call is written as a line of vectors/library, which says it again to any other host; `call_of` reads it, all but a check.
+// A call is written as a line of vectors/library, which says it again to any other host; `Call::from` a line reads it, all but a check.
 #![tactic(auto)]
 
-ghost use Rattle.std.specs.Prelude.{◌≤◌};
-
-use io::print_decimal;
-use line::Line;
-use planner::{Changed, Planner};
-use text::say;
+use checker::{Finding, Verdict};
+use line::{Line, line_of};
+use planner::{Planner, Rounded};
+use std::fmt;
+use std::io::Result;
+use text::Hex;
 
 pub mod cases;
 pub mod line;
-pub mod memory;
+mod memory;
+
+// A round's buffer has so many elements at most.
+const MOST_ELEMENTS: usize = 70;
 
 // A call, with its numbers in the order of its line.
 #[derive(Clone, Copy)]
@@ -30,145 +33,138 @@ pub enum Call {
     Round(u32),
 }
 
-// What a call answered, a round's start, 0 of any other call, and the planner after it.
+// What a call answered, and the start of a round that was held.
 #[derive(Clone, Copy)]
 pub struct Answered {
     pub answer: u32,
-    pub start: u32,
-    pub planner: Planner,
+    pub held: Option<u32>,
 }
 
 // The call that a line says; one with another letter is a round.
-pub fn call_of(line: Line) -> Call {
-    let x = line.numbers;
-    let letter = line.letter;
-    match letter {
-        b'O' => Call::Open(x[1], x[2], x[3], x[4], x[5]),
-        b'A' => Call::Add(x[1], x[2], x[3], x[4]),
-        b'D' => Call::Remove(x[1]),
-        b'S' => Call::Send(x[1]),
-        _ => Call::Round(x[1]),
-    }
-}
-
-fn say_number(before: &[u8], x: u32) {
-    say(before);
-    print_decimal(1, x as u64);
-}
-
-fn say_four(before: &[u8], a: u32, b: u32, c: u32, d: u32) {
-    say_number(before, a);
-    say_number(b",", b);
-    say_number(b",", c);
-    say_number(b",", d);
-}
-
-fn say_call(call: Call) {
-    match call {
-        Call::Open(slots, frame, gap, last, messages) => {
-            say_four(b"O,", slots, frame, gap, last);
-            say_number(b",", messages);
+impl From<Line> for Call {
+    fn from(line: Line) -> Call {
+        let [_, a, b, c, d, e] = line.numbers;
+        match line.letter {
+            Some(b'O') => Call::Open(a, b, c, d, e),
+            Some(b'A') => Call::Add(a, b, c, d),
+            Some(b'D') => Call::Remove(a),
+            Some(b'S') => Call::Send(a),
+            _ => Call::Round(a),
         }
-        Call::Add(id, start, period, deadline) => say_four(b"A,", id, start, period, deadline),
-        Call::Remove(id) => say_number(b"D,", id),
-        Call::Send(number) => say_number(b"S,", number),
-        Call::Round(length) => say_number(b"R ", length),
     }
 }
 
-// What a call but a round answers.
-fn change(p: Planner, call: Call) -> Changed {
-    match call {
-        Call::Open(slots, frame, gap, last, messages) => {
-            planner::open(slots, frame, gap, last, messages)
+impl fmt::Display for Call {
+    fn fmt<W: fmt::Write>(&self, f: &mut fmt::Formatter<W>) -> fmt::Result {
+        match *self {
+            Call::Open(slots, frame, gap, last, messages) => {
+                write!(f, "O,{slots},{frame},{gap},{last},{messages}")
+            }
+            Call::Add(id, start, period, deadline) => {
+                write!(f, "A,{id},{start},{period},{deadline}")
+            }
+            Call::Remove(id) => write!(f, "D,{id}"),
+            Call::Send(number) => write!(f, "S,{number}"),
+            Call::Round(length) => write!(f, "R {length}"),
         }
-        Call::Add(id, start, period, deadline) => planner::add(p, id, start, period, deadline),
-        Call::Remove(id) => planner::remove(p, id),
-        Call::Send(number) => planner::send(p, number),
-        Call::Round(_) => Changed {
-            answer: 0,
-            planner: p,
-        },
     }
 }
 
-fn changed(c: Changed) -> Answered {
-    say_number(b": ", c.answer);
-    say(b"\n");
-    let planner = c.planner;
-    Answered {
-        answer: c.answer,
-        start: 0,
-        planner,
+// The elements of a buffer, each shown behind a blank.
+#[derive(Clone, Copy)]
+struct Elements<'a>(&'a [u16]);
+
+impl fmt::Display for Elements<'_> {
+    fn fmt<W: fmt::Write>(&self, f: &mut fmt::Formatter<W>) -> fmt::Result {
+        for element in self.0 {
+            write!(f, " {element}")?;
+        }
+        Ok(())
     }
 }
 
-fn say_element(x: u16) {
-    say_number(b" ", x as u32);
+// A planner that is kept, whose calls are printed.
+#[derive(Clone, Copy)]
+pub struct Host<'a> {
+    pub rt: &'a HostRuntime,
+    pub planner: Planner,
 }
 
-fn say_elements(buffer: &[u16]) {
-    let mut i: usize = 0;
-    while i < buffer.len() {
-        say_element(buffer[i]);
-        i += 1;
+impl<'a> Host<'a> {
+    // The planner begins closed.
+    pub fn new(rt: &'a HostRuntime) -> Host<'a> {
+        Host {
+            rt,
+            planner: planner::open(0, 0, 0, 0, 0).planner,
+        }
     }
-}
 
-fn round_into(p: Planner, buffer: &mut [u16]) -> Answered {
-    let held = planner::round(p, buffer);
-    say_number(b": ", held.answer);
-    say_number(b" ", held.start);
-    say_number(b" ", held.n);
-    say_elements(buffer);
-    say(b"\n");
-    let planner = held.planner;
-    Answered {
-        answer: held.answer,
-        start: held.start,
-        planner,
+    fn round(&mut self, length: u32) -> Result<Answered> {
+        let mut buffer = [0; MOST_ELEMENTS];
+        let elements = &mut buffer[..MOST_ELEMENTS.min(length as usize)];
+        let held = planner::round(self.planner, elements);
+        self.planner = held.planner;
+        let Rounded {
+            answer,
+            start,
+            n,
+            ..
+        } = held;
+        let call = Call::Round(length);
+        println!(self.rt; "{call}: {answer} {start} {n}{}", Elements(elements))?;
+        Ok(Answered {
+            answer,
+            held: (answer == 0).then_some(start),
+        })
     }
-}
 
-// As many elements as a buffer has here at most.
-fn at_most_70(length: u32) -> usize
-    ensures { result ≤ 70 }
-{
-    if 70 < length {
-        return 70;
+    // Makes a call, and prints it with its answer.
+    pub fn make(&mut self, call: Call) -> Result<Answered> {
+        let p = self.planner;
+        let changed = match call {
+            Call::Open(slots, frame, gap, last, messages) => {
+                planner::open(slots, frame, gap, last, messages)
+            }
+            Call::Add(id, start, period, deadline) => planner::add(p, id, start, period, deadline),
+            Call::Remove(id) => planner::remove(p, id),
+            Call::Send(number) => planner::send(p, number),
+            Call::Round(length) => return self.round(length),
+        };
+        self.planner = changed.planner;
+        let answer = changed.answer;
+        println!(self.rt; "{call}: {answer}")?;
+        Ok(Answered { answer, held: None })
     }
-    length as usize
-}
 
-// A length above 70 is taken for 70.
-fn round(p: Planner, length: u32) -> Answered {
-    let mut buffer = [0u16; 70];
-    let elements = at_most_70(length);
-    round_into(p, &mut buffer[..elements])
-}
-
-pub fn make(p: Planner, call: Call) -> Answered {
-    say_call(call);
-    match call {
-        Call::Round(length) => round(p, length),
-        _ => changed(change(p, call)),
+    // Does what a line says that is no check: with a small letter it sets a number in the planner, and prints nothing.
+    pub fn run_line(&mut self, text: &[u8]) -> Result<()> {
+        let line = line_of(text);
+        if matches!(line.letter, Some(b'a'..)) {
+            memory::set(&mut self.planner, &line);
+            return Ok(());
+        }
+        self.make(Call::from(line))?;
+        Ok(())
     }
-}
 
-// A check, which leaves the planner as it is. What is found has the answer of the verdict, or the line says that it differs.
-pub fn check(p: Planner, plan: &[u8]) {
-    let verdict = checker::check(p, plan);
-    let found = checker::find(p, plan);
-    say(b"C,");
-    text::print_hex(plan);
-    say_number(b": ", verdict.answer);
-    say_number(b" ", verdict.round);
-    say_number(b" ", found.passed);
-    say_number(b" ", found.rule);
-    say(b" ");
-    print_decimal(1, found.at as u64);
-    if found.answer != verdict.answer {
-        say(b" differs");
+    // A check, which leaves the planner as it is. What is found has the answer of the verdict, or the line says that it differs.
+    pub fn check(&self, plan: &[u8]) -> Result<()> {
+        let Verdict { answer, round } = checker::check(self.planner, plan);
+        let found = checker::find(self.planner, plan);
+        let differs = if found.answer == answer {
+            ""
+        } else {
+            " differs"
+        };
+        let Finding {
+            passed,
+            rule,
+            at,
+            ..
+        } = found;
+        println!(self.rt;
+            "C,{}: {answer} {round} {passed} {rule} {at}{differs}",
+            Hex(plan)
+        )
     }
-    say(b"\n");
 }

@@ -1,86 +1,36 @@
-// A line of text as far as it is read, byte by byte: its first byte, and the numbers behind that, each after a comma or a blank. Any other byte
-// is passed over.
+// A line of text as far as it is read: its first byte, and the numbers behind that, each behind a comma or a blank. Any other byte is passed over.
 
-// The first byte, 0 if there is none yet; how many commas and blanks stood behind it; and the numbers, of which the first is at 1.
-#[derive(Clone, Copy)]
+// The first byte, if there is one, and the numbers, of which the first is at 1.
+#[derive(Clone, Copy, Default)]
 pub struct Line {
-    pub letter: u8,
-    pub at: usize,
+    pub letter: Option<u8>,
     pub numbers: [u32; 6],
 }
 
-fn begun(letter: u8) -> Line {
-    Line {
-        letter,
-        at: 0,
-        numbers: [0; 6],
+// Zeros before anything else are no part of a line.
+pub fn begun(text: &[u8]) -> &[u8] {
+    match text.iter().position(|c| *c != 0) {
+        Some(first) => &text[first..],
+        None => &[],
     }
 }
 
-pub fn empty() -> Line {
-    begun(0)
-}
-
-// The value of a digit; 10 for any other byte.
-fn digit_value(c: u8) -> u8 {
-    if c < b'0' {
-        return 10;
-    }
-    if b'9' < c {
-        return 10;
-    }
-    c - b'0'
-}
-
-fn followed_by(x: u32, digit: u8) -> u32 {
-    ((x as u64 * 10 + digit as u64) % 4294967296) as u32
-}
-
-fn with_digit(line: Line, digit: u8) -> Line {
-    let at = line.at;
-    let mut numbers = line.numbers;
-    if at < 6 {
-        numbers[at] = followed_by(numbers[at], digit);
-    }
-    Line {
-        letter: line.letter,
-        at,
-        numbers,
-    }
-}
-
-fn with_separator(line: Line) -> Line {
-    let numbers = line.numbers;
-    if 5 < line.at {
-        return line;
-    }
-    Line {
-        letter: line.letter,
-        at: line.at + 1,
-        numbers,
-    }
-}
-
-pub fn with_byte(line: Line, c: u8) -> Line {
-    if line.letter == 0 {
-        return begun(c);
-    }
-    let digit = digit_value(c);
-    if digit < 10 {
-        return with_digit(line, digit);
-    }
-    match c {
-        b',' | b' ' => with_separator(line),
-        _ => line,
-    }
+// The digits of a field as a number, modulo 2^32.
+fn number_in(field: &[u8]) -> u32 {
+    field
+        .iter()
+        .filter_map(|c| char::from(*c).to_digit(10))
+        .fold(0u32, |x, digit| x.wrapping_mul(10).wrapping_add(digit))
 }
 
 pub fn line_of(text: &[u8]) -> Line {
-    let mut line = empty();
-    let mut i: usize = 0;
-    while i < text.len() {
-        line = with_byte(line, text[i]);
-        i += 1;
+    let mut line = Line::default();
+    if let Some((letter, fields)) = begun(text).split_first() {
+        line.letter = Some(*letter);
+        let fields = fields.split(|c| matches!(*c, b',' | b' '));
+        for (number, field) in line.numbers.iter_mut().zip(fields) {
+            *number = number_in(field);
+        }
     }
     line
 }

@@ -4,6 +4,8 @@ pub mod Verdicts
 pub mod Numbers
 pub mod Sending
 pub mod Columns
+pub mod Rows
 pub mod Slots
 pub mod Fronts
+pub mod Rules
 pub mod Checking

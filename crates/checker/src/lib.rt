@@ -4,15 +4,17 @@
 ghost use Rattle.state.specs.Sound.{Sound};
 ghost use Rattle.checker.specs.Verdicts.{IsFinding, IsVerdict};
 
+use basics::Refusal;
 use rounds::check_round;
-use sending::hints_of;
+use sending::Streams;
 use state::Planner;
-use table::Column;
 
+mod round_rules;
 mod rounds;
 mod sending;
 
 // Annex 14.12: 0 and 0 of a sound plan; 0 and the number, from 1, of the first round that breaks a rule; 5 and 0 if the planner is not sound.
+// The C interface: the header's struct has the same fields in the same order.
 #[repr(C)]
 #[derive(Clone, Copy)]
 pub struct Verdict {
@@ -21,6 +23,7 @@ pub struct Verdict {
 }
 
 // Annex 14.13: how many rounds pass and how many bytes they have, and the number of the rule that the next one breaks, 0 if there is none.
+// Answer and rule are numbers, since a plan that is refused gives zeros too (Annex 14.13; `IsFinding`).
 #[derive(Clone, Copy)]
 pub struct Finding {
     pub answer: u32,
@@ -34,39 +37,26 @@ fn find_sound(p: Planner, plan: &[u8]) -> Finding
     requires { Sound p }
     ensures { IsFinding p plan.now result }
 {
-    let table = p.table;
-    let ids = table::ids_in_range(table);
-    let periods = table::column_in_range(table, Column::Period);
-    let deadlines = table::column_in_range(table, Column::Deadline);
-    let mut dues = table::column_in_range(table, Column::Due);
-    let count = table.count;
-    let hints = hints_of(&ids, count);
+    let mut streams = Streams::of_table(&p.table);
     let mut last = p.last;
     let mut passed: u32 = 0;
     let mut at: usize = 0;
     while at < plan.len() {
-        let checked = check_round(
-            p.setting,
-            last,
-            count,
-            &plan[at..],
-            &hints,
-            &ids,
-            &periods,
-            &deadlines,
-            &mut dues,
-        );
-        if checked.rule != 0 {
-            return Finding {
-                answer: 0,
-                passed,
-                rule: checked.rule,
-                at,
-            };
+        match check_round(p.setting, last, &plan[at..], &mut streams) {
+            Ok(round) => {
+                passed += 1;
+                last = round.start;
+                at += round.length;
+            }
+            Err(rule) => {
+                return Finding {
+                    answer: 0,
+                    passed,
+                    rule: u32::from(rule),
+                    at,
+                };
+            }
         }
-        passed += 1;
-        last = checked.start;
-        at += checked.length;
     }
     Finding {
         answer: 0,
@@ -80,14 +70,14 @@ fn find_sound(p: Planner, plan: &[u8]) -> Finding
 pub fn find(p: Planner, plan: &[u8]) -> Finding
     ensures { IsFinding p plan.now result }
 {
-    if state::sound_start(p) == 0 {
+    let Some(_start) = state::sound_start(&p) else {
         return Finding {
-            answer: 5,
+            answer: u32::from(Refusal::NotSound),
             passed: 0,
             rule: 0,
             at: 0,
         };
-    }
+    };
     find_sound(p, plan)
 }
 

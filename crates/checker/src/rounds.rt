@@ -1,107 +1,94 @@
 // One round of a plan: the packet in front of what is left of its bytes.
-ghost use Rattle.std.specs.Prelude.{◌≡◌, ◌≤◌, length};
-ghost use Rattle.messages.specs.Numbers.{stream_ids};
-ghost use Rattle.checker.specs.Needs.{CanCheck, IsHeaderRule, IsChecked, bare, broken_by, columns};
+ghost use Rattle.std.specs.Prelude.{◌≡◌, ◌≤◌, MatchOption};
+ghost use Rattle.basics.specs.Limits.{places, most_slots};
+ghost use Rattle.checker.specs.Needs.{CanCheck, NoneInFront, IsInFront, values, IsHeaderChecked, IsChecked};
 
-use super::sending::slots_rule;
-use packet_bytes::{ids_of_pairs, start_of_header, wide};
+use super::round_rules::Rule;
+use super::sending::Streams;
+use packet_bytes::{ids_of_pairs, start_of_header};
 use packets::are_good;
 use round_tests::{packet_length, start_fits, stream_count};
 use state::Setting;
 
-// The first rule that a round breaks; or 0, how long its packet is, and its start.
+// A round that keeps all rules: how long its packet is, and its start.
 #[derive(Clone, Copy)]
-pub struct Checked {
-    pub rule: u32,
+pub struct Passed {
     pub length: usize,
     pub start: u32,
 }
 
-// The first of the three rules that a packet's values break by themselves: 1 if they are not good or have another B, 2 if the start does not fit, 3 if
-// there are more stream ids, which are `streams`, than slots for them; else 0.
-fn header_rule(
-    setting: Setting,
-    last: u32,
+// A packet as it stands in front, whether it is good or not: how long it is, its start, its B, and its numbers, which are the first `count`: there is no
+// heap.
+#[derive(Clone, Copy)]
+struct Front {
+    length: usize,
     start: u32,
     slots: u32,
-    numbers: &[u16],
-    streams: usize,
-) -> u32
-    requires { (setting.messages ≤ setting.slots) × (streams ≡ length (stream_ids numbers.now)) }
-    ensures { IsHeaderRule (bare setting last) (record { start = start; slots = slots; ids = numbers.now }) result }
+    count: usize,
+    numbers: [u16; 64],
+}
+
+// The packet in front; none if it is cut short or has more numbers than B.
+fn front_of(rest: &[u8], most: u32) -> Option<Front>
+    requires { most ≤ most_slots }
+    ensures { MatchOption result (NoneInFront rest.now most) (IsInFront rest.now) }
 {
-    if slots != setting.slots {
-        return 1;
+    let length = packet_length(rest)?;
+    let count = usize::from(rest[5]);
+    if (most as usize) < count {
+        return None;
     }
-    if !are_good(start, slots, numbers) {
-        return 1;
+    Some(Front {
+        length,
+        start: start_of_header(rest),
+        slots: u32::from(rest[4]),
+        count,
+        numbers: ids_of_pairs(&rest[6..length], count),
+    })
+}
+
+// How many stream ids the packet has, if it keeps the three rules that its values can break by themselves; else the first that they break.
+fn header_checked(setting: Setting, last: u32, front: &Front) -> Result<usize, Rule>
+    requires setting_in_range { CanCheck setting }
+    requires few { front.now.count ≤ places }
+    ensures { IsHeaderChecked setting last (values front.now) result }
+{
+    let numbers = &front.numbers[..front.count];
+    if front.slots != setting.slots || !are_good(front.start, front.slots, numbers) {
+        return Err(Rule::Packet);
     }
-    if !start_fits(start, last, setting.gap) {
-        return 2;
+    if !start_fits(front.start, last, setting.gap) {
+        return Err(Rule::Start);
     }
+    let streams = stream_count(numbers);
     if ((setting.slots - setting.messages) as usize) < streams {
-        return 3;
+        return Err(Rule::Room);
     }
-    0
+    Ok(streams)
 }
 
-// What is answered for a round that breaks a rule.
-fn broken(rule: u32) -> Checked
-    ensures { result ≡ broken_by rule }
-{
-    Checked {
-        rule,
-        length: 0,
-        start: 0,
-    }
-}
-
-// The round in front, on streams that stand in columns; the due times pass on to those that the round leaves.
-pub fn check_round<'a>(
+// The round in front: what it leaves the streams at, or the first rule that it breaks.
+pub fn check_round(
     setting: Setting,
     last: u32,
-    count: usize,
-    rest: &'a [u8],
-    hints: &'a [u8; 1024],
-    ids: &'a [u32; 64],
-    periods: &'a [u32; 64],
-    deadlines: &'a [u32; 64],
-    dues: &'a mut [u32; 64],
-) -> Checked
-    requires { CanCheck setting count (columns ids.now periods.now deadlines.now) dues.old }
-    ensures { IsChecked setting last rest.now (columns ids.now periods.now deadlines.now) dues.old dues.new result }
+    rest: &[u8],
+    streams: &mut Streams,
+) -> Result<Passed, Rule>
+    requires { CanCheck setting }
+    ensures { IsChecked setting last rest.now streams.old streams.new result }
 {
-    let length = packet_length(rest);
-    if length == 0 {
-        return broken(1);
+    let Some(front) = front_of(rest, setting.slots) else {
+        return Err(Rule::Packet);
+    };
+    let listed = header_checked(setting, last, &front)?;
+    if !streams.send_all(&front.numbers[..listed], front.start) {
+        return Err(Rule::Slots);
     }
-    let n = wide(rest[5]) as usize;
-    if (setting.slots as usize) < n {
-        return broken(1);
+    if !streams.none_due_by(front.start + 1) {
+        return Err(Rule::Rest);
     }
-    let numbers = ids_of_pairs(&rest[6..length], n);
-    let streams = stream_count(&numbers[..n]);
-    let start = start_of_header(rest);
-    let rule = header_rule(setting, last, start, wide(rest[4]), &numbers[..n], streams);
-    if rule != 0 {
-        return broken(rule);
-    }
-    let rule = slots_rule(
-        count,
-        hints,
-        ids,
-        periods,
-        deadlines,
-        dues,
-        &numbers[..streams],
-        start,
-    );
-    if rule != 0 {
-        return broken(rule);
-    }
-    Checked {
-        rule: 0,
-        length,
-        start,
-    }
+    Ok(Passed {
+        length: front.length,
+        start: front.start,
+    })
 }

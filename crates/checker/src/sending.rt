@@ -1,106 +1,119 @@
-// The slots of a round served one after the other, on streams that a foreign plan has led to: they need not be those of a sound planner.
-ghost use Rattle.std.specs.Prelude.{◌≤◌};
-ghost use Rattle.basics.specs.Limits.{places};
-ghost use Rattle.basics.specs.Places.{Rises};
-ghost use Rattle.checker.specs.Needs.{CanSend, CanServe, IsRowOf, SendsOne, SendsAll, Serves, columns};
+// The streams that a foreign plan has led to, which need not be those of a sound planner, and the slots of a round sent on them one after the other.
+ghost use Rattle.std.specs.Prelude.{◌≡◌, ◌≤◌};
+ghost use Rattle.basics.specs.Decides.{Decides};
+ghost use Rattle.basics.specs.Limits.{places, last_start};
+ghost use Rattle.table.specs.Table.{records_of};
+ghost use Rattle.checker.specs.Needs.{CanShow, IsRowOf, IsSentOne, IsSentAll, NoneDue};
 
-use basics::wide;
 use round_tests::{none_by_in_range, rides};
+use std::marker::Model;
+use table::{Record, Table};
 
-// Hints where ids may be: at an id's remainder by 1,024 the place of an id that has it.
-pub fn hints_of(ids: &[u32; 64], count: usize) -> [u8; 1024]
+// The records in columns, of which only the due times change, so that many of these are compared at once; fixed arrays, since there is no heap. The
+// hints say where ids may be: at an id's remainder by 1,024 the row of one that has it. Any hint is right, and a good one is quick.
+#[derive(Drop)]
+pub struct Streams {
+    count: usize,
+    ids: [u32; 64],
+    periods: [u32; 64],
+    deadlines: [u32; 64],
+    dues: [u32; 64],
+    hints: [u8; 1024],
+}
+
+impl Model for Streams {
+    ghost use Rattle.std.specs.Prelude.{List};
+    ghost use Rattle.table.specs.declared.Record.{Record};
+
+    ghost Value = { List Record };
+
+    ghost use Rattle.checker.specs.Columns.{records_in, AreColumns};
+
+    ghost view = { records_in };
+
+    ghost invariant = { AreColumns };
+}
+
+// Hints for ids in the first places.
+fn hints_of(ids: &[u32; 64], count: usize) -> [u8; 1024]
     requires { count ≤ places }
 {
     let mut hints = [0u8; 1024];
-    let mut i: usize = 0;
-    while i < count {
-        let id = ids[i];
-        hints[(id % 1024) as usize] = i as u8;
-        i += 1;
+    for (place, id) in ids[..count].iter().enumerate() {
+        hints[(*id % 1024) as usize] = place as u8;
     }
     hints
 }
 
-// The place that a hint gives for an id, if the id stands there; else that found by halving. Any hint is right, and a good one is quick.
-fn place_of<'a>(hints: &'a [u8; 1024], ids: &'a [u32; 64], id: u32) -> usize
-    requires { Rises ids.now }
-    ensures { IsRowOf ids.now id result }
-{
-    let place = (hints[(id % 1024) as usize] % 64) as usize;
-    if ids[place] == id {
-        return place;
+impl Streams {
+    // The streams of a table.
+    pub fn of_table(table: &Table) -> Streams
+        requires { CanShow table.now }
+        ensures { result ≡ records_of table.now }
+    {
+        // As a slice, whose length a proof knows.
+        let _places: &[Record] = &table.streams;
+        let ids = table.ids_in_range();
+        let hints = hints_of(&ids, table.count);
+        Streams {
+            count: table.count,
+            ids,
+            periods: table.column_in_range(0, |stream| stream.period),
+            deadlines: table.column_in_range(0, |stream| stream.deadline),
+            dues: table.column_in_range(0, |stream| stream.release + stream.deadline),
+            hints,
+        }
     }
-    basics::place_among_rising(ids, id)
-}
 
-// One slot: the id is held and its packet may ride; its stream passes to the next packet.
-fn sent_one<'a>(
-    hints: &'a [u8; 1024],
-    ids: &'a [u32; 64],
-    periods: &'a [u32; 64],
-    deadlines: &'a [u32; 64],
-    dues: &'a mut [u32; 64],
-    number: u16,
-    start: u32,
-) -> bool
-    requires { CanSend (columns ids.now periods.now deadlines.now) dues.old start }
-    ensures { SendsOne (columns ids.now periods.now deadlines.now) dues.old dues.new number start result }
-{
-    let id = wide(number);
-    let row = place_of(hints, ids, id);
-    if ids[row] != id {
-        return false;
+    // The row that the id has: where a hint says, or else found by halving.
+    fn row_of(&self, number: u16) -> Option<usize>
+        ensures { IsRowOf self.now number result }
+    {
+        let id = u32::from(number);
+        let hinted = usize::from(self.hints[(id % 1024) as usize] % 64);
+        if self.ids[hinted] == id {
+            return Some(hinted);
+        }
+        let row = basics::place_among_rising(&self.ids, id);
+        if self.ids[row] != id {
+            return None;
+        }
+        Some(row)
     }
-    let due = dues[row];
-    if !rides(due, deadlines[row], start) {
-        return false;
-    }
-    dues[row] = due + periods[row];
-    true
-}
 
-// All slots, in their order.
-fn sent_all<'a>(
-    hints: &'a [u8; 1024],
-    ids: &'a [u32; 64],
-    periods: &'a [u32; 64],
-    deadlines: &'a [u32; 64],
-    dues: &'a mut [u32; 64],
-    listed: &'a [u16],
-    start: u32,
-) -> bool
-    requires { CanSend (columns ids.now periods.now deadlines.now) dues.old start }
-    ensures { SendsAll (columns ids.now periods.now deadlines.now) dues.old dues.new listed.now start result }
-{
-    let mut k: usize = 0;
-    while k < listed.len() {
-        if !sent_one(hints, ids, periods, deadlines, dues, listed[k], start) {
+    // One slot: the id is held and its packet may ride; its stream passes to the next packet.
+    fn send(&mut self, number: u16, start: u32) -> bool
+        requires { start ≤ last_start }
+        ensures { IsSentOne self.old self.new number start result }
+    {
+        let Some(row) = self.row_of(number) else {
+            return false;
+        };
+        let due = self.dues[row];
+        if !rides(due, self.deadlines[row], start) {
             return false;
         }
-        k += 1;
+        self.dues[row] = due + self.periods[row];
+        true
     }
-    true
-}
 
-// All slots sent, or 4, and after them no packet due by the end of the round left over, or 5.
-pub fn slots_rule<'a>(
-    count: usize,
-    hints: &'a [u8; 1024],
-    ids: &'a [u32; 64],
-    periods: &'a [u32; 64],
-    deadlines: &'a [u32; 64],
-    dues: &'a mut [u32; 64],
-    listed: &'a [u16],
-    start: u32,
-) -> u32
-    requires { CanServe count (columns ids.now periods.now deadlines.now) dues.old start }
-    ensures { Serves (columns ids.now periods.now deadlines.now) dues.old dues.new listed.now start result }
-{
-    if !sent_all(hints, ids, periods, deadlines, dues, listed, start) {
-        return 4;
+    // All slots, in their order.
+    pub fn send_all(&mut self, listed: &[u16], start: u32) -> bool
+        requires { start ≤ last_start }
+        ensures { IsSentAll self.old self.new listed.now start result }
+    {
+        for number in listed {
+            if !self.send(*number, start) {
+                return false;
+            }
+        }
+        true
     }
-    if !none_by_in_range(dues, count, start + 1) {
-        return 5;
+
+    // Whether no stream's next packet is due by the end of a round.
+    pub fn none_due_by(&self, end: u32) -> bool
+        ensures { Decides result (NoneDue end self.now) }
+    {
+        none_by_in_range(&self.dues, self.count, end)
     }
-    0
 }

@@ -1,3 +1,2 @@
 -- Laws that the proofs of several functions cite.
-mod Shape
 pub mod Facts

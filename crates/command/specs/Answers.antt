@@ -1,5 +1,5 @@
 -- What the planner answers to a command: Annex, chapter 11.
-use Rattle.std.specs.Prelude.{◌≡◌, List, [], ◌∷◌, ℕ, length, take}
+use Rattle.std.specs.Prelude.{◌≡◌, Option, Some, None, List, [], ◌∷◌, ℕ, length, take}
 use Rattle.basics.specs.Limits.{most_slots}
 use Rattle.state.specs.Open.{setting, IsOpened}
 use Rattle.planner.specs.declared.Offer.{Offer}
@@ -12,7 +12,7 @@ use Rattle.planner.specs.declared.Rounded.{Rounded}
 use Rattle.command.specs.Text.{letter_O, letter_A, letter_D, letter_R, letter_E}
 use Rattle.command.specs.Puts.{lines_of, AreFew}
 use Rattle.command.specs.declared.Command.{Command}
-use Rattle.command.specs.declared.Command.TheVariants.{Open, Add, Remove, Round, Malformed}
+use Rattle.command.specs.declared.Command.TheVariants.{Open, Add, Remove, Round}
 use Rattle.command.specs.declared.answers.Answered.{Answered}
 
 -- Annex 11.20: an answer leaves this planner and has these lines, each a letter and numbers, few enough for its room.
@@ -50,9 +50,9 @@ pub record IsRoundGiven (p : Planner) (r : Answered) : Type 0 where
   pub refused : (done.answer ≡ 0 → ⊥) → Gives done.planner ((letter_R, done.answer ∷ []) ∷ []) r
 
 -- Annex 11.13, 11.20: what is answered to each command by this planner; to a malformed line `E,20,` and its number, and the planner stays.
-abbrev pub IsAnswered : Planner → ℕ → Command → Answered → Type 0
-IsAnswered p number (Open b f g t) r = IsOpenGiven (setting b f g 0) t r
-IsAnswered p number (Add id start period deadline) r = IsAddGiven p (offer id start period deadline) r
-IsAnswered p number (Remove id) r = IsRemoveGiven p id r
-IsAnswered p number Round r = IsRoundGiven p r
-IsAnswered p number Malformed r = Gives p ((letter_E, 20 ∷ number ∷ []) ∷ []) r
+abbrev pub IsAnswered : Planner → ℕ → Option Command → Answered → Type 0
+IsAnswered p number (Some (Open b f g t)) r = IsOpenGiven (setting b f g 0) t r
+IsAnswered p number (Some (Add id start period deadline)) r = IsAddGiven p (offer id start period deadline) r
+IsAnswered p number (Some (Remove id)) r = IsRemoveGiven p id r
+IsAnswered p number (Some Round) r = IsRoundGiven p r
+IsAnswered p number None r = Gives p ((letter_E, 20 ∷ number ∷ []) ∷ []) r

@@ -1,9 +1,9 @@
 -- Which lines are commands: O,B,F,G,T / A,id,S,P,D / D,id / R.
 use mathlib.Core.List.{List, [], ◌∷◌, Mem}
-use Rattle.std.specs.Prelude.{ℕ, ◌≤◌, ◌<◌, length}
+use Rattle.std.specs.Prelude.{Option, Some, None, ℕ, ◌≤◌, ◌<◌, length}
 use Rattle.command.specs.Text.{IsWritten, letter_O, letter_A, letter_D, letter_R}
 use Rattle.command.specs.declared.Command.{Command}
-use Rattle.command.specs.declared.Command.TheVariants.{Open, Add, Remove, Round, Malformed}
+use Rattle.command.specs.declared.Command.TheVariants.{Open, Add, Remove, Round}
 
 -- Annex 11.8: the most bytes of a command's line.
 abbrev pub longest_line : ℕ
@@ -27,9 +27,9 @@ pub record IsMalformed (line : List ℕ) : Type 0 where
   pub no_round : IsGood letter_R [] line → ⊥
 
 -- Annex 11.6: a line says a command if it is a good line of its letter, O, A, D or R, and of just its numbers; every other is malformed.
-abbrev pub Says : List ℕ → Command → Type 0
-Says line (Open b f g t) = IsGood letter_O (b ∷ f ∷ g ∷ t ∷ []) line
-Says line (Add id s p d) = IsGood letter_A (id ∷ s ∷ p ∷ d ∷ []) line
-Says line (Remove id) = IsGood letter_D (id ∷ []) line
-Says line Round = IsGood letter_R [] line
-Says line Malformed = IsMalformed line
+abbrev pub Says : List ℕ → Option Command → Type 0
+Says line (Some (Open b f g t)) = IsGood letter_O (b ∷ f ∷ g ∷ t ∷ []) line
+Says line (Some (Add id s p d)) = IsGood letter_A (id ∷ s ∷ p ∷ d ∷ []) line
+Says line (Some (Remove id)) = IsGood letter_D (id ∷ []) line
+Says line (Some Round) = IsGood letter_R [] line
+Says line None = IsMalformed line

@@ -1,5 +1,5 @@
 -- One line of the command program: what it says, what the planner answers, and what is written.
-use Rattle.std.specs.Prelude.{◌≡◌, List, ℕ, ◌+◌, ◌≤◌}
+use Rattle.std.specs.Prelude.{◌≡◌, Option, List, ℕ, ◌+◌, ◌≤◌}
 use Rattle.state.specs.declared.Planner.{Planner}
 use Rattle.command.specs.Commands.{Says}
 use Rattle.command.specs.Answers.{IsAnswered}
@@ -10,7 +10,7 @@ use Rattle.command.specs.declared.step.Step.{Step}
 
 -- Annex 11.11: one line: what it says, what the planner answers to it, the planner that this leaves, and the bytes of the answer with its ends.
 pub record IsAnswer (p : Planner) (number : ℕ) (line bytes : List ℕ) (after : Planner) : Type 0 where
-  pub command : Command
+  pub command : Option Command
   pub says : Says line command
   pub answered : Answered
   pub by_contract : IsAnswered p number command answered

@@ -14,12 +14,11 @@ mod reading;
 mod script;
 mod step;
 
-// What a line says.
+// What a line says, unless it is malformed.
 #[derive(Clone, Copy)]
 pub enum Command {
     Open(u32, u32, u32, u32),
     Add(u32, u32, u32, u32),
     Remove(u32),
     Round,
-    Malformed,
 }

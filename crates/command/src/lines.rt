@@ -1,7 +1,7 @@
 // Lines cut from a piece of input, one after the other.
+ghost use Rattle.std.specs.Prelude.{◌≡◌, ◌==◌, ◌≤◌, length, position};
 ghost use Rattle.command.specs.Lines.{IsLineEnd};
 ghost use Rattle.command.specs.Runs.{CanRun, HasRun, HasRunLast};
-ghost use Rattle.std.specs.Prelude.{◌≤◌, length};
 
 use super::print::ROOM;
 use super::step::step_in_range;
@@ -16,19 +16,22 @@ pub struct Reached {
     pub end: usize,
 }
 
+// The place of the first byte 10, if there is one.
+fn first_end(bytes: &[u8]) -> Option<usize>
+    ensures { result ≡ position (λ byte. byte == 10) bytes.now }
+{
+    bytes.iter().position(|byte| *byte == b'\n')
+}
+
 // The place of the first byte 10 from `from` on, or the length where there is none.
 pub fn line_end_in_range(bytes: &[u8], from: usize) -> usize
     requires { from ≤ length bytes.now }
     ensures { IsLineEnd bytes.now from result }
 {
-    let mut i = from;
-    while i < bytes.len() {
-        if bytes[i] == 10 {
-            return i;
-        }
-        i += 1;
+    match first_end(&bytes[from..]) {
+        Some(before) => from + before,
+        None => bytes.len(),
     }
-    i
 }
 
 // Whole lines from `from` on, one after the other, until none is left or the buffer may be too short for the next answer.
@@ -36,30 +39,23 @@ pub fn run_lines_in_range(start: Reached, bytes: &[u8], out: &mut [u8]) -> Reach
     requires { CanRun start bytes.now out.old }
     ensures { HasRun start bytes.now out.old out.new result }
 {
-    let mut planner = start.planner;
-    let mut number = start.number;
-    let mut from = start.from;
-    let mut end = start.end;
-    while from < bytes.len() {
-        let to = line_end_in_range(bytes, from);
-        if to == bytes.len() {
+    let mut reached = start;
+    while reached.from < bytes.len() {
+        let to = line_end_in_range(bytes, reached.from);
+        if to == bytes.len() || out.len() - reached.end < ROOM {
             break;
         }
-        if out.len() - end < ROOM {
-            break;
-        }
-        number += 1;
-        let step = step_in_range(planner, number, &bytes[from..to], out, end);
-        planner = step.planner;
-        end = step.end;
-        from = to + 1;
+        let number = reached.number + 1;
+        let line = &bytes[reached.from..to];
+        let step = step_in_range(reached.planner, number, line, out, reached.end);
+        reached = Reached {
+            planner: step.planner,
+            number,
+            from: to + 1,
+            end: step.end,
+        };
     }
-    Reached {
-        planner,
-        number,
-        from,
-        end,
-    }
+    reached
 }
 
 // The bytes after the last line end are a line too, if there are any and the buffer has room for its answer.
@@ -67,19 +63,13 @@ pub fn run_last_in_range(start: Reached, bytes: &[u8], out: &mut [u8]) -> Reache
     requires { CanRun start bytes.now out.old }
     ensures { HasRunLast start bytes.now out.old out.new result }
 {
-    if start.from == bytes.len() {
+    if start.from == bytes.len() || out.len() - start.end < ROOM {
         return start;
     }
-    if out.len() - start.end < ROOM {
-        return start;
-    }
-    let planner = start.planner;
     let number = start.number + 1;
-    let from = start.from;
-    let step = step_in_range(planner, number, &bytes[from..], out, start.end);
-    let after = step.planner;
+    let step = step_in_range(start.planner, number, &bytes[start.from..], out, start.end);
     Reached {
-        planner: after,
+        planner: step.planner,
         number,
         from: bytes.len(),
         end: step.end,

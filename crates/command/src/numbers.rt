@@ -1,52 +1,60 @@
 // The number at the start of some bytes.
-ghost use Rattle.std.specs.Prelude.{◌≤◌, length};
-ghost use Rattle.command.specs.Reads.{IsDigitAt, IsReadNumber};
+ghost use Rattle.std.specs.Prelude.{◌≡◌, slice_index, EachIndex};
+ghost use Rattle.std.specs.List.{prefix_len};
+ghost use Rattle.std.specs.Char.{is_ascii_digit};
+ghost use Rattle.basics.specs.Decides.{Decides};
+ghost use Rattle.command.specs.Reads.{IsDigit, HasLeadingZero, IsValueOf, IsReadNumber};
 
-// A number's value, and how many bytes it takes; Bad if there is none that fits 32 bits.
+// A number in text: its value, and how many bytes it takes.
 #[derive(Clone, Copy)]
-pub enum Number {
-    Value(u32, usize),
-    Bad,
+pub struct Numeral {
+    pub value: u32,
+    pub taken: usize,
 }
 
-// The digit at a place, or 10 if there is none.
-fn digit_at(bytes: &[u8], i: usize) -> u64
-    requires { i ≤ length bytes.now }
-    ensures { IsDigitAt bytes.now i result }
+// How many bytes at the start are digits.
+fn count_digits(bytes: &[u8]) -> usize
+    ensures { result ≡ prefix_len is_ascii_digit bytes.now }
 {
-    if bytes.len() <= i {
-        return 10;
-    }
-    let byte = bytes[i] as u64;
-    if byte < 48 {
-        return 10;
-    }
-    if 57 < byte {
-        return 10;
-    }
-    byte - 48
+    bytes
+        .iter()
+        .take_while(|byte| byte.is_ascii_digit())
+        .count()
 }
 
-// The number at the start of the bytes: all digits up to the first other byte.
-pub fn read_number(bytes: &[u8]) -> Number
+// Whether the first digit is a 0 and others follow.
+fn has_leading_zero(digits: &[u8]) -> bool
+    ensures { Decides result (HasLeadingZero digits.now) }
+{
+    matches!(digits, [b'0', _, ..])
+}
+
+// The value of digits, if it fits 32 bits.
+fn value_of_digits(digits: &[u8]) -> Option<u32>
+    requires { EachIndex digits.now (λ k. IsDigit (slice_index digits.now k)) }
+    ensures { IsValueOf digits.now result }
+{
+    let mut value: u32 = 0;
+    for digit in digits {
+        value = value
+            .checked_mul(10)?
+            .checked_add(u32::from(*digit - b'0'))?;
+    }
+    Some(value)
+}
+
+// The number at the start of the bytes: all digits up to the first other byte. With a 0 before another digit they are none.
+pub fn read_number(bytes: &[u8]) -> Option<Numeral>
     ensures { IsReadNumber bytes.now result }
 {
-    let mut value: u64 = 0;
-    let mut i: usize = 0;
-    let mut digit = digit_at(bytes, 0);
-    while digit < 10 {
-        if 0 < i && value == 0 {
-            return Number::Bad;
-        }
-        value = value * 10 + digit;
-        if 4294967295 < value {
-            return Number::Bad;
-        }
-        i += 1;
-        digit = digit_at(bytes, i);
+    let taken = count_digits(bytes);
+    if taken == 0 {
+        return None;
     }
-    if i == 0 {
-        return Number::Bad;
+    let digits = &bytes[..taken];
+    if has_leading_zero(digits) {
+        return None;
     }
-    Number::Value(value as u32, i)
+    let value = value_of_digits(digits)?;
+    Some(Numeral { value, taken })
 }

@@ -4,98 +4,71 @@ ghost use Rattle.command.specs.Commands.{longest_line, Says};
 ghost use Rattle.command.specs.Reads.{IsReadField, IsReadFields, IsCommandOf};
 
 use crate::Command;
-use crate::numbers::{Number, read_number};
+use crate::numbers::{Numeral, read_number};
 
-// The numbers of a line's fields: the first `count` values, if the fields are good and no more than four.
+// The most bytes of a command's line, and the most numbers.
+const LONGEST_LINE: usize = 63;
+
+const MOST_FIELDS: usize = 4;
+
+// The numbers of a line's fields: the first `count` values, in an array, since the library has no heap.
 #[derive(Clone, Copy)]
 struct Fields {
-    good: bool,
     count: usize,
-    values: [u32; 4],
+    values: [u32; MOST_FIELDS],
 }
 
 // The number of the field that begins at a place of the line.
-fn read_field(line: &[u8], at: usize) -> Number
+fn read_field(line: &[u8], at: usize) -> Option<Numeral>
     requires { at < length line.now }
     ensures { IsReadField line.now at result }
 {
     if line[at] != b',' {
-        return Number::Bad;
+        return None;
     }
-    let first = at + 1;
-    read_number(&line[first..])
+    read_number(&line[at + 1..])
 }
 
-fn read_fields(line: &[u8]) -> Fields
+// The numbers of all fields of a line: each is read where the one before it ends.
+fn read_fields(line: &[u8]) -> Option<Fields>
     requires { (1 ≤ length line.now) × (length line.now ≤ longest_line) }
     ensures { IsReadFields line.now result }
 {
-    let mut values = [0u32; 4];
-    let mut count: usize = 0;
-    let mut at: usize = 1;
+    let mut values = [0; MOST_FIELDS];
+    let mut count = 0;
+    let mut at = 1;
     while at < line.len() {
-        if 3 < count {
-            return Fields {
-                good: false,
-                count,
-                values,
-            };
+        if count == MOST_FIELDS {
+            return None;
         }
-        let Number::Value(value, taken) = read_field(line, at) else {
-            return Fields {
-                good: false,
-                count,
-                values,
-            };
-        };
-        values[count] = value;
+        let number = read_field(line, at)?;
+        values[count] = number.value;
         count += 1;
-        at = at + 1 + taken;
+        at += 1 + number.taken;
     }
-    Fields {
-        good: true,
-        count,
-        values,
-    }
+    Some(Fields { count, values })
 }
 
-// The command of a letter and fields.
-fn command_of(letter: u8, fields: Fields) -> Command
-    ensures { IsCommandOf letter fields result }
+// The command of a letter and numbers.
+fn command_of(letter: u8, numbers: &[u32]) -> Option<Command>
+    ensures { IsCommandOf letter numbers.now result }
 {
-    if !fields.good {
-        return Command::Malformed;
+    match (letter, numbers) {
+        (b'O', &[slots, frame, gap, last]) => Some(Command::Open(slots, frame, gap, last)),
+        (b'A', &[id, start, period, deadline]) => Some(Command::Add(id, start, period, deadline)),
+        (b'D', &[id]) => Some(Command::Remove(id)),
+        (b'R', []) => Some(Command::Round),
+        _ => None,
     }
-    let count = fields.count;
-    let values = fields.values;
-    if count == 4 {
-        if letter == b'O' {
-            return Command::Open(values[0], values[1], values[2], values[3]);
-        }
-        if letter == b'A' {
-            return Command::Add(values[0], values[1], values[2], values[3]);
-        }
-        return Command::Malformed;
-    }
-    if count == 1 && letter == b'D' {
-        return Command::Remove(values[0]);
-    }
-    if count == 0 && letter == b'R' {
-        return Command::Round;
-    }
-    Command::Malformed
 }
 
-// What a line says.
-pub fn parse(line: &[u8]) -> Command
+// The command that a line says; a malformed line says none.
+pub fn parse(line: &[u8]) -> Option<Command>
     ensures { Says line.now result }
 {
-    if line.len() == 0 {
-        return Command::Malformed;
+    if line.is_empty() || LONGEST_LINE < line.len() {
+        return None;
     }
-    if 63 < line.len() {
-        return Command::Malformed;
-    }
-    let fields = read_fields(line);
-    command_of(line[0], fields)
+    let fields = read_fields(line)?;
+    command_of(line[0], &fields.values[..fields.count])
 }

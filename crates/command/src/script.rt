@@ -1,26 +1,14 @@
 // A whole script from memory.
-ghost use Rattle.state.specs.Open.{zeros, IsFresh};
 ghost use Rattle.command.specs.Script.{IsBeginning, IsScript};
 
 use super::lines::{Reached, run_last_in_range, run_lines_in_range};
-use planner::Planner;
 
-// The closed planner: what a refused opening gives.
-fn closed() -> Planner
-    ensures { IsFresh zeros 0 result }
-{
-    let done = planner::open(0, 0, 0, 0, 0);
-    let planner = done.planner;
-    planner
-}
-
-// Where every run begins: the planner is closed until an O succeeds.
+// Where every run begins: the planner is closed, as a refused opening leaves it, until an O succeeds.
 pub fn beginning() -> Reached
     ensures { IsBeginning result }
 {
-    let planner = closed();
     Reached {
-        planner,
+        planner: planner::open(0, 0, 0, 0, 0).planner,
         number: 0,
         from: 0,
         end: 0,
@@ -31,8 +19,7 @@ pub fn beginning() -> Reached
 pub fn run_script(script: &[u8], out: &mut [u8]) -> usize
     ensures { IsScript script.now out.old out.new result }
 {
-    let start = beginning();
-    let reached = run_lines_in_range(start, script, out);
+    let reached = run_lines_in_range(beginning(), script, out);
     let ended = run_last_in_range(reached, script, out);
     ended.end
 }

@@ -3,7 +3,7 @@ ghost use Rattle.std.specs.Prelude.{◌+◌, ◌≤◌, length};
 ghost use Rattle.command.specs.Step.{IsStep};
 ghost use Rattle.command.specs.Puts.{room};
 
-use super::answers::answer;
+use super::answers::{answer, malformed};
 use super::print::put_lines_in_range;
 use super::reading::parse;
 use planner::Planner;
@@ -20,13 +20,13 @@ pub fn step_in_range(planner: Planner, number: u64, line: &[u8], out: &mut [u8],
     requires { at + room ≤ length out.old }
     ensures { IsStep planner number line.now out.old out.new at result }
 {
-    let command = parse(line);
-    let answered = answer(planner, number, command);
-    let lines = answered.lines;
-    let end = put_lines_in_range(out, at, lines);
-    let after = answered.planner;
+    let answered = match parse(line) {
+        Some(command) => answer(&planner, command),
+        None => malformed(planner, number),
+    };
+    let written = put_lines_in_range(&mut out[at..], answered.lines);
     Step {
-        planner: after,
-        end,
+        planner: answered.planner,
+        end: at + written,
     }
 }

@@ -1,11 +1,11 @@
 -- What the inner functions of a turn promise one another: answering, keeping a cut line, reading more.
-use Rattle.std.specs.Prelude.{◌≡◌, true, ◌⊎◌, List, ◌++◌, ℕ, ◌+◌, ◌-◌, ◌≤◌, ◌<◌, min, length, take, drop}
+use Rattle.std.specs.Prelude.{◌≡◌, ◌⊎◌, List, ◌++◌, ℕ, ◌+◌, ◌-◌, ◌≤◌, ◌<◌, min, length, take, drop}
 use Rattle.command.specs.Puts.{room}
 use Rattle.command.specs.Script.{IsBeginning}
 use Rattle.console.specs.Transcript.{most_kept, HasNoEnd, ToldAll}
 use Rattle.console.specs.declared.Session.{Session}
 use Rattle.console.specs.declared.Turn.{Turn}
-use Rattle.console.specs.declared.system.Delivery.{Delivery}
+use Rattle.console.specs.declared.Outcome.TheVariants.{Ended}
 use Rattle.console.specs.Session.{buffer_places, at_hand, HasTold, InBounds, delivered}
 
 -- Nothing has been read and nothing written.
@@ -62,11 +62,6 @@ pub record IsKept (s : Session) (before after : List ℕ) (r : Session) : Type 0
   pub end : r.reached.end ≡ s.reached.end
   pub number : r.reached.number ≡ s.reached.number
 
--- What a read may deliver into a buffer of n places: where the input has ended, nothing.
-pub record IsDelivery (n : ℕ) (d : Delivery) : Type 0 where
-  pub few : d.count ≤ n
-  pub at_end : d.ended ≡ true → d.count ≡ 0
-
 -- What was delivered stands behind what was at hand. Where the input has ended, no whole line is left.
 pub record IsRefilled (s : Session) (wrote : ℕ) (before after : List ℕ) (t : Turn) : Type 0 where
   pub told : (read written : List ℕ) → HasTold read written s before → HasTold (read ++ delivered t after) written t.session after
@@ -74,4 +69,4 @@ pub record IsRefilled (s : Session) (wrote : ℕ) (before after : List ℕ) (t :
   pub bounds : InBounds t.session
   pub empty : t.session.reached.end ≡ 0
   pub number : t.session.reached.number ≡ s.reached.number
-  pub at_end : t.ended ≡ true → HasNoEnd (at_hand t.session after)
+  pub at_end : t.outcome ≡ Ended → HasNoEnd (at_hand t.session after)

@@ -1,9 +1,10 @@
 -- What the parts of the command program promise one another. `read` stands for all bytes that the reads have delivered so far, `written` for all
 -- that has been handed over to be written; what the system does with them lies outside.
-use Rattle.std.specs.Prelude.{◌≡◌, true, List, ◌++◌, ℕ, ◌+◌, ◌-◌, ◌≤◌, length, take, drop}
+use Rattle.std.specs.Prelude.{◌≡◌, List, ◌++◌, ℕ, ◌+◌, ◌-◌, ◌≤◌, length, take, drop}
 use Rattle.console.specs.Transcript.{HasNoEnd, Told}
 use Rattle.console.specs.declared.Session.{Session}
 use Rattle.console.specs.declared.Turn.{Turn}
+use Rattle.console.specs.declared.Outcome.TheVariants.{Ended}
 
 -- Annex 12.1: the places of the buffer for the input, and of that for the output.
 abbrev pub buffer_places : ℕ
@@ -44,4 +45,4 @@ pub record IsTurned (s : Session) (before after out : List ℕ) (t : Turn) : Typ
   pub bounds : InBounds t.session
   pub empty : t.session.reached.end ≡ 0
   pub number : t.session.reached.number ≤ s.reached.number + buffer_places
-  pub at_end : t.ended ≡ true → HasNoEnd (at_hand t.session after)
+  pub at_end : t.outcome ≡ Ended → HasNoEnd (at_hand t.session after)

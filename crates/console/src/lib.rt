@@ -2,7 +2,8 @@
 // in two are put together again, and every answer is handed over before more is read. The system's calls stand in `system`.
 #![tactic(auto)]
 
-ghost use Rattle.std.specs.Prelude.{◌≡◌, ◌≤◌, ◌<◌, length};
+ghost use Rattle.std.specs.Prelude.{◌≡◌, ◌≤◌, Some, length};
+ghost use Rattle.console.specs.declared.Outcome.TheVariants.{Ended};
 ghost use Rattle.console.specs.Session.{CanKeep, CanRefill, IsTurned};
 ghost use Rattle.console.specs.Needs.{IsBegun, CanAnswer, HasAnswered, CanAnswerLast, HasAnsweredLast, handed_over, IsMoved, IsKept, IsRefilled};
 
@@ -11,6 +12,13 @@ use std::rt::Clock;
 
 mod system;
 
+// As much of a line is kept as tells what it says: a longer one is malformed whatever follows.
+const MOST_KEPT: usize = 64;
+
+// A proved loop has to end, and nothing says that the input does: so there is a number of turns that no run uses up. It also keeps line numbers
+// below 64 bits.
+const MOST_TURNS: u64 = 1 << 47;
+
 // What has been reached in the input at hand, and how many bytes of it there are.
 #[derive(Clone, Copy)]
 pub struct Session {
@@ -18,22 +26,31 @@ pub struct Session {
     pub have: usize,
 }
 
-// A turn: how many bytes of the output were handed over, how many were read, whether to go on, and whether the input has ended.
+// What follows a turn: another one, or the end of the run, where the input has ended, or where it cannot be read on or the output not be written on.
+#[derive(Clone, Copy)]
+pub enum Outcome {
+    GoesOn,
+    Ended,
+    Failed,
+}
+
+// A turn: how many bytes of the output were handed over, how many were read, and what follows.
 #[derive(Clone, Copy)]
 pub struct Turn {
     pub session: Session,
     pub wrote: usize,
     pub got: usize,
-    pub more: bool,
-    pub ended: bool,
+    pub outcome: Outcome,
 }
 
 // Nothing has been read and nothing written.
 fn begun() -> Session
     ensures { IsBegun result }
 {
-    let reached = command::beginning();
-    Session { reached, have: 0 }
+    Session {
+        reached: command::beginning(),
+        have: 0,
+    }
 }
 
 // Whole lines of the input at hand are answered, until none is left or the output may be too short for the next answer.
@@ -41,10 +58,8 @@ fn answer_lines_in_range(s: Session, input: &[u8], out: &mut [u8]) -> Session
     requires { CanAnswer s input.now out.old }
     ensures { HasAnswered s input.now out.new result }
 {
-    let have = s.have;
-    let start = s.reached;
-    let reached = command::run_lines_in_range(start, &input[..have], out);
-    Session { reached, have }
+    let reached = command::run_lines_in_range(s.reached, &input[..s.have], out);
+    Session { reached, ..s }
 }
 
 // What is left at the end of the input is a line too.
@@ -52,44 +67,31 @@ fn answer_last_in_range(s: Session, input: &[u8], out: &mut [u8]) -> Session
     requires { CanAnswerLast s input.now out.old }
     ensures { HasAnsweredLast s input.now out.new result }
 {
-    let have = s.have;
-    let start = s.reached;
-    let reached = command::run_last_in_range(start, &input[..have], out);
-    Session { reached, have }
+    let reached = command::run_last_in_range(s.reached, &input[..s.have], out);
+    Session { reached, ..s }
 }
 
 // What stood in the output has been handed over: the output is empty again, and nothing else has changed.
 fn handed_over(s: Session) -> Session
     ensures { result ≡ handed_over s }
 {
-    let done = s.reached;
-    let planner = done.planner;
-    let reached = Reached {
-        planner,
-        number: done.number,
-        from: done.from,
-        end: 0,
-    };
     Session {
-        reached,
-        have: s.have,
+        reached: Reached {
+            end: 0,
+            ..s.reached
+        },
+        ..s
     }
 }
 
-// What is left of a line goes to the front. 64 bytes are enough of it: a longer line is malformed whatever follows.
+// What is left of a line goes to the front, as much of it as is kept.
 fn move_to_front_in_range(input: &mut [u8], from: usize, have: usize) -> usize
     requires { (from ≤ have) × (have ≤ length input.old) }
     ensures { IsMoved from have input.old input.new result }
 {
-    let mut k: usize = 0;
-    while k < 64 {
-        if from + k == have {
-            return k;
-        }
-        input[k] = input[from + k];
-        k += 1;
-    }
-    k
+    let kept = MOST_KEPT.min(have - from);
+    input.copy_within(from..from + kept, 0);
+    kept
 }
 
 // The input at hand is the rest of a line, and room behind it.
@@ -97,42 +99,42 @@ fn keep_rest_in_range(s: Session, input: &mut [u8]) -> Session
     requires { CanKeep s input.old }
     ensures { IsKept s input.old input.new result }
 {
-    let before = s.reached;
-    let planner = before.planner;
-    let from = before.from;
-    let kept = move_to_front_in_range(input, from, s.have);
+    let have = move_to_front_in_range(input, s.reached.from, s.have);
     let reached = Reached {
-        planner,
-        number: before.number,
         from: 0,
-        end: before.end,
+        ..s.reached
     };
-    Session {
-        reached,
-        have: kept,
+    Session { reached, have }
+}
+
+// What follows a read: no bytes end the input.
+fn after_read(read: Option<usize>) -> Outcome
+    ensures { result ≡ Ended → read ≡ Some 0 }
+{
+    match read {
+        Some(0) => Outcome::Ended,
+        Some(_) => Outcome::GoesOn,
+        None => Outcome::Failed,
     }
 }
 
-// The rest of a line is kept, and more is read behind it. No bytes end the input; after a failed read the rest is no line.
+// The rest of a line is kept, and more is read behind it. After a failed read the rest is no line.
 fn refilled_in_range<R: Input + Clock>(rt: &R, s: Session, input: &mut [u8], wrote: usize) -> Turn
     requires { CanRefill s input.old }
     ensures { IsRefilled s wrote input.old input.new result }
 {
     let kept = keep_rest_in_range(s, input);
-    let have = kept.have;
-    let reached = kept.reached;
-    let delivery = system::read_input(rt, &mut input[have..], reached.number);
-    let got = delivery.count;
+    let read = system::read_input(rt, &mut input[kept.have..], kept.reached.number);
+    let got = read.unwrap_or(0);
     let session = Session {
-        reached,
-        have: have + got,
+        have: kept.have + got,
+        ..kept
     };
     Turn {
         session,
         wrote,
         got,
-        more: 0 < got,
-        ended: delivery.ended,
+        outcome: after_read(read),
     }
 }
 
@@ -147,20 +149,27 @@ fn turn_in_range<R: Input + Print + Clock>(
     ensures { IsTurned s input.old input.new out.new result }
 {
     let answered = answer_lines_in_range(s, input, out);
-    let reached = answered.reached;
-    let wrote = reached.end;
-    let is_written = system::write_answers(rt, &out[..wrote], reached.number);
+    let wrote = answered.reached.end;
+    let is_written = system::write_answers(rt, &out[..wrote], answered.reached.number);
     let session = handed_over(answered);
-    if is_written && ROOM <= out.len() - wrote {
-        return refilled_in_range(rt, session, input, wrote);
+    if !is_written {
+        return Turn {
+            session,
+            wrote,
+            got: 0,
+            outcome: Outcome::Failed,
+        };
     }
-    Turn {
-        session,
-        wrote,
-        got: 0,
-        more: is_written,
-        ended: false,
+    let room = out.len() - wrote;
+    if room < ROOM {
+        return Turn {
+            session,
+            wrote,
+            got: 0,
+            outcome: Outcome::GoesOn,
+        };
     }
+    refilled_in_range(rt, session, input, wrote)
 }
 
 // What is left at the end of the input is answered, and the answer handed over.
@@ -168,43 +177,22 @@ fn finish_in_range<R: Print + Clock>(rt: &R, s: Session, input: &[u8], out: &mut
     requires { CanAnswerLast s input.now out.old }
 {
     let last = answer_last_in_range(s, input, out);
-    let reached = last.reached;
-    let end = reached.end;
-    system::write_answers(rt, &out[..end], reached.number);
+    system::write_answers(rt, &out[..last.reached.end], last.reached.number);
 }
 
-// One turn fewer, or none where the run does not go on.
-fn turns_left_in_range(turns: u64, more: bool) -> u64
-    requires { 0 < turns }
-    ensures { result < turns }
-{
-    if !more {
-        return 0;
-    }
-    turns - 1
-}
-
-// A proved loop has to end, and nothing says that the input does: so the turns count down from a number that no run uses up. It also keeps
-// line numbers below 64 bits.
+// Turns, until the input has ended or a read or a write has failed.
 pub fn run<R: Input + Print + Clock>(rt: &R) {
     let mut input = io::large_buffer();
     let mut out = io::large_buffer();
     let mut s = begun();
-    let mut more = true;
-    let mut ended = false;
-    let mut turns: u64 = 140737488355328;
-    while 0 < turns {
+    for _turns in 0..MOST_TURNS {
         let turn = turn_in_range(rt, s, &mut input, &mut out);
         s = turn.session;
-        more = turn.more;
-        ended = turn.ended;
-        turns = turns_left_in_range(turns, more);
+        match turn.outcome {
+            Outcome::GoesOn => {}
+            Outcome::Ended => return finish_in_range(rt, s, &input, &mut out),
+            Outcome::Failed => return,
+        }
     }
-    if ended {
-        finish_in_range(rt, s, &input, &mut out);
-    }
-    if more {
-        let reached = s.reached;
-        system::say_used_up(reached.number);
-    }
+    system::say_used_up(s.reached.number);
 }

@@ -1,32 +1,21 @@
 // The system's calls: reading, writing, and a line on standard error where they cannot go on. What they deliver and do lies outside the contracts.
-ghost use Rattle.std.specs.Prelude.{◌≤◌, length, IfOk};
-ghost use Rattle.console.specs.Needs.{IsDelivery};
+ghost use Rattle.std.specs.Prelude.{◌≤◌, length, IfOk, IfSome};
 
 use std::io::{Error, ErrorKind, Read, Result};
 use std::rt::Clock;
 use std::thread;
 use std::time::Duration;
 
-// How many bytes were read, and whether the input has ended. A read that failed delivers none and ends nothing.
-#[derive(Clone, Copy)]
-pub struct Delivery {
-    pub count: usize,
-    pub ended: bool,
-}
-
-// Lets a thousandth of a second pass.
-fn rest(rt: &impl Clock) {
-    thread::sleep(rt, Duration::from_millis(1));
-}
-
-// Whether a call that has just failed is to be made again: it was interrupted, or it would have had to wait, and a moment has passed.
+// Whether a call that has just failed is to be made again: it was interrupted, or it would have had to wait, and a thousandth of a second has passed.
 fn is_to_be_tried_again(rt: &impl Clock, error: &Error) -> bool {
-    let kind = error.kind();
-    if kind == ErrorKind::WouldBlock {
-        rest(rt);
-        return true;
+    match error.kind() {
+        ErrorKind::Interrupted => true,
+        ErrorKind::WouldBlock => {
+            thread::sleep(rt, Duration::from_millis(1));
+            true
+        }
+        _ => false,
     }
-    kind == ErrorKind::Interrupted
 }
 
 // A line on standard error: what cannot go on, and the number of the last line answered.
@@ -47,102 +36,66 @@ fn read_some<R: Input + Clock>(rt: &R, buffer: &mut [u8]) -> Result<usize>
     ensures { IfOk result (λ n. n ≤ length buffer.old) }
 {
     let mut reader = rt.reader();
-    let mut tries: u64 = 18446744073709551615;
-    while 0 < tries {
+    for _ in 0..u64::MAX {
         match reader.read(buffer) {
-            Ok(got) => return Ok(got),
-            Err(error) => {
-                if !is_to_be_tried_again(rt, &error) {
-                    return Err(error);
-                }
-            }
+            Err(error) if is_to_be_tried_again(rt, &error) => {}
+            outcome => return outcome,
         }
-        tries -= 1;
     }
     Err(Error::from(ErrorKind::TimedOut))
 }
 
-// The same as a delivery; a failed read is said.
-pub fn read_input<R: Input + Clock>(rt: &R, buffer: &mut [u8], number: u64) -> Delivery
-    ensures { IsDelivery (length buffer.old) result }
+// How many bytes were read, 0 where the input has ended. A read that failed is said, and delivers none.
+pub fn read_input<R: Input + Clock>(rt: &R, buffer: &mut [u8], number: u64) -> Option<usize>
+    ensures { IfSome result (λ n. n ≤ length buffer.old) }
 {
     match read_some(rt, buffer) {
-        Ok(count) => Delivery {
-            count,
-            ended: count == 0,
-        },
+        Ok(count) => Some(count),
         Err(_) => {
             say(b"standard input cannot be read on", number);
-            Delivery {
-                count: 0,
-                ended: false,
-            }
+            None
         }
     }
 }
 
 // Writes at least one byte, and answers how many; an error where the write failed.
+// A loop like that of `read_some`: one function of a closure for both is no plainer, with clauses on the buffer that each try lends.
 fn write_some<R: Print + Clock>(rt: &R, bytes: &[u8]) -> Result<usize>
     ensures { IfOk result (λ n. n ≤ length bytes.now) }
 {
-    let mut tries: u64 = 18446744073709551615;
-    while 0 < tries {
+    for _ in 0..u64::MAX {
         match rt.write_some(bytes) {
-            Ok(put) => return Ok(put),
-            Err(error) => {
-                if !is_to_be_tried_again(rt, &error) {
-                    return Err(error);
-                }
-            }
+            Err(error) if is_to_be_tried_again(rt, &error) => {}
+            outcome => return outcome,
         }
-        tries -= 1;
     }
     Err(Error::from(ErrorKind::TimedOut))
 }
 
-// Writes the bytes, and answers how many were written: fewer than all where the output cannot be written on.
-fn write_most<R: Print + Clock>(rt: &R, bytes: &[u8]) -> usize
-    ensures { result ≤ length bytes.now }
-{
-    let mut done: usize = 0;
-    while done < bytes.len() {
-        let put = write_some(rt, &bytes[done..]).unwrap_or(0);
-        if put == 0 {
-            return done;
+// Writes the bytes, and answers those that are left where the output cannot be written on.
+fn write_most<'a, R: Print + Clock>(rt: &R, bytes: &'a [u8]) -> &'a [u8] {
+    let mut rest = bytes;
+    while !rest.is_empty() {
+        match write_some(rt, rest) {
+            Ok(written) if 0 < written => rest = &rest[written..],
+            _ => return rest,
         }
-        done += put;
     }
-    done
+    rest
 }
 
 // How many of the bytes end a line.
 fn line_ends(bytes: &[u8]) -> u64 {
-    let mut n: u64 = 0;
-    let mut i: usize = 0;
-    while i < bytes.len() {
-        if bytes[i] == 10 {
-            n += 1;
-        }
-        i += 1;
-    }
-    n
-}
-
-// What is left of `number` lines without the last few.
-fn less(number: u64, few: u64) -> u64 {
-    if few < number {
-        return number - few;
-    }
-    0
+    bytes.iter().filter(|byte| **byte == b'\n').count() as u64
 }
 
 // Writes answers, the last of them to line `number`, and answers whether all were written. A line counts as answered once its answer is written with its end.
 pub fn write_answers<R: Print + Clock>(rt: &R, answers: &[u8], number: u64) -> bool {
-    let done = write_most(rt, answers);
-    if done == answers.len() {
+    let left = write_most(rt, answers);
+    if left.is_empty() {
         return true;
     }
-    let left = line_ends(&answers[done..]);
-    say(b"standard output cannot be written on", less(number, left));
+    let answered = number.saturating_sub(line_ends(left));
+    say(b"standard output cannot be written on", answered);
     false
 }

@@ -1,6 +1,7 @@
 // The planner that the firmware keeps and lends to each call, to be changed, or by check to be read: thin forms over the calls by value, exported to C.
 // A refused call stores nothing (Annex 7.37, 13.6): add, remove, send and round store the planner only where the answer is 0; open stores always, and
 // check never (Annex 14.16).
+// Each calls the form by value, which docs/DECISIONS.md asks for (the table of forms).
 
 #![tactic(auto)]
 
@@ -14,6 +15,7 @@ use checker::Verdict;
 use planner::Planner;
 
 // What a round answers beside the planner: its start and the count of numbers written, both 0 if refused.
+// The C interface: the header's struct has the same fields in the same order.
 #[repr(C)]
 #[derive(Clone, Copy)]
 pub struct Held {

@@ -1,15 +1,16 @@
 // Short messages that wait for a free slot, first come first out: at most 32 numbers in the first `count` places.
 #![tactic(auto)]
 
-ghost use Rattle.std.specs.Prelude.{◌≡◌, [], ◌∷◌, ◌++◌, ◌+◌, ◌≤◌, ◌<◌, min, take, drop};
+ghost use Rattle.std.specs.Prelude.{◌≡◌, [], ◌∷◌, ◌++◌, ◌+◌, ◌≤◌, ◌<◌, take, drop};
 ghost use Rattle.basics.specs.Decides.{Decides};
 ghost use Rattle.basics.specs.Limits.{most_slots, most_waiting};
 ghost use Rattle.messages.specs.Waiting.{IsMessage, waiting_of, no_waiting};
 ghost use Rattle.messages.specs.Needs.{HasWaiting, WaitingInRange, IsListing};
 
-use basics::{LARGEST_MESSAGE, LEAST_MESSAGE, MOST_WAITING, wide};
+use basics::{LARGEST_MESSAGE, LEAST_MESSAGE, MOST_WAITING};
 
 // The numbers that wait stand in the first `count` places, in the order in which they were sent.
+// The C interface: the header's struct has the same fields in the same order.
 #[repr(C)]
 #[derive(Clone, Copy)]
 pub struct Waiting {
@@ -31,10 +32,7 @@ pub fn none() -> Waiting
 pub fn is_message(number: u32) -> bool
     ensures { Decides result (IsMessage number) }
 {
-    if number < LEAST_MESSAGE {
-        return false;
-    }
-    number <= LARGEST_MESSAGE
+    (LEAST_MESSAGE..=LARGEST_MESSAGE).contains(&number)
 }
 
 // Whether at most `most` numbers wait, and no more than there are places, each of them a message, on any value whatever.
@@ -47,16 +45,9 @@ pub fn in_range(w: Waiting, most: u32) -> bool
     if most < w.count {
         return false;
     }
-    let numbers = w.numbers;
-    let mut i: u32 = 0;
-    while i < w.count {
-        let number = numbers[i as usize];
-        if !is_message(wide(number)) {
-            return false;
-        }
-        i += 1;
-    }
-    true
+    w.numbers[..w.count as usize]
+        .iter()
+        .all(|number| is_message(u32::from(*number)))
 }
 
 // A number joins behind those that wait.
@@ -65,10 +56,9 @@ pub fn put_last_in_range(w: Waiting, number: u16) -> Waiting
     ensures { HasWaiting (waiting_of w ++ (number ∷ [])) result }
 {
     let mut numbers = w.numbers;
-    let count = w.count;
-    numbers[count as usize] = number;
+    numbers[w.count as usize] = number;
     Waiting {
-        count: count + 1,
+        count: w.count + 1,
         numbers,
     }
 }
@@ -78,46 +68,17 @@ fn without_first_in_range(w: Waiting, n: u32) -> Waiting
     requires { (n ≤ w.count) × (w.count ≤ most_waiting) }
     ensures { HasWaiting (drop n (waiting_of w)) result }
 {
-    let old = w.numbers;
     let left = w.count - n;
     let mut numbers = [0u16; 32];
-    let mut i: u32 = 0;
-    while i < left {
-        numbers[i as usize] = old[(n + i) as usize];
-        i += 1;
-    }
+    numbers[..left as usize].copy_from_slice(&w.numbers[n as usize..w.count as usize]);
     Waiting {
         count: left,
         numbers,
     }
 }
 
-// The first m numbers written behind k ids.
-fn listed_in_range(ids: [u16; 64], k: usize, w: Waiting, m: usize) -> [u16; 64]
-    requires { (m ≤ w.count) × (w.count ≤ most_waiting) × (k + m ≤ most_slots) }
-    ensures { take (k + m) result ≡ take k ids ++ take m (waiting_of w) }
-{
-    let numbers = w.numbers;
-    let mut all = ids;
-    let mut i: usize = 0;
-    while i < m {
-        all[k + i] = numbers[i];
-        i += 1;
-    }
-    all
-}
-
-// The lesser of the free slots and of those that wait.
-fn fitting(free: usize, waiting: usize) -> usize
-    ensures { result ≡ min free waiting }
-{
-    if free < waiting {
-        return free;
-    }
-    waiting
-}
-
 // What a round lists, in the first n places, and the messages that it leaves waiting.
+// No heap: a list that is handed out stands in an array of fixed size, with its length.
 #[derive(Clone, Copy)]
 pub struct Listed {
     pub numbers: [u16; 64],
@@ -130,12 +91,12 @@ pub fn list_in_range(ids: [u16; 64], k: usize, free: usize, w: Waiting) -> Liste
     requires { (w.count ≤ most_waiting) × (k + free ≤ most_slots) }
     ensures { IsListing (take k ids) free (waiting_of w) result }
 {
-    let m = fitting(free, w.count as usize);
-    let numbers = listed_in_range(ids, k, w, m);
-    let left = without_first_in_range(w, m as u32);
+    let m = free.min(w.count as usize);
+    let mut numbers = ids;
+    numbers[k..k + m].copy_from_slice(&w.numbers[..m]);
     Listed {
         numbers,
         n: k + m,
-        left,
+        left: without_first_in_range(w, m as u32),
     }
 }

@@ -2,10 +2,6 @@
 use Rattle.std.specs.Prelude.{List, [], ◌∷◌, ℕ, ◌+◌, ◌*◌, get_or, drop}
 use Rattle.packet_bytes.specs.Layout.{Values}
 
--- The largest number in a byte, and so the largest n that a packet can say.
-abbrev pub largest_byte : ℕ
-largest_byte = 255
-
 -- The most ids that are read from a packet: no good one has more.
 abbrev pub most_read : ℕ
 most_read = 64

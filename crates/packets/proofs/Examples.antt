@@ -1,6 +1,6 @@
 -- Worked examples: packets byte by byte, one of them that of a first round, one with messages, and each refusal.
 use Rattle.std.specs.Prelude.{◌≡◌, refl, ℕ, ◌+◌, ◌*◌, ◌≤◌, length, get_or}
-use Rattle.std.proofs.Common.{sym, ap, lt_irrefl, arith}
+use Rattle.std.proofs.Common.{sym, ap, arith}
 use Rattle.std.proofs.Math.Logic.Or
 use mathlib.Core.HLevel.{⊥_prop}
 use mathlib.Core.List.{List, [], ◌∷◌, Mem, Nodup-cons, eq-or-mem_of_mem-cons, mem-cons_self, mem-cons_of_mem, not-mem-nil}
@@ -54,7 +54,7 @@ first_good =
     }
   where
     two_is_new : Mem {A = ℕ} 2 (1 ∷ []) → ⊥
-    two_is_new m = Or.elim ⊥_prop (eq-or-mem_of_mem-cons m) (λ same. lt_irrefl 0 (omega (arith, same))) not-mem-nil
+    two_is_new m = Or.elim ⊥_prop (eq-or-mem_of_mem-cons m) (λ same. omega (arith, same)) not-mem-nil
 
 -- A read of these bytes answers n.
 pub record Gives (p : List ℕ) (n : ℕ) : Type 0 where
@@ -104,43 +104,43 @@ message_65535 = good_values (carries 2 1 (65_535 ∷ [])) refl (message_alone 65
 
 -- 26: five bytes; seven, though B is bad too.
 pub five_bytes : Gives (0 ∷ 0 ∷ 0 ∷ 2 ∷ 2 ∷ []) 26
-five_bytes = wrong_length (λ long. lt_irrefl 0 (omega (arith, long.0)))
+five_bytes = wrong_length (λ long. omega (arith, long.0))
 
 -- seven bytes where n is 0, and six are right, get 26 and not 27, though B is 99
 pub seven_bytes : Gives (0 ∷ 0 ∷ 0 ∷ 2 ∷ 99 ∷ 0 ∷ 0 ∷ []) 26
-seven_bytes = wrong_length (λ long. lt_irrefl 0 (omega (arith, long.1)))
+seven_bytes = wrong_length (λ long. omega (arith, long.1))
 
 -- 27: a start after the last one; B 0 and 65; n above B, also by messages; 0; an id twice; an id behind a message.
 pub late_start : Gives (59 ∷ 154 ∷ 202 ∷ 1 ∷ 1 ∷ 0 ∷ []) 27
-late_start = bad_value (omega arith) refl (λ good. lt_irrefl 0 (omega (arith, good.start)))
+late_start = bad_value (omega arith) refl (λ good. omega (arith, good.start))
 
 -- start 2, B 0 and n 0 get 27: B is below 1
 pub no_slots : Gives (0 ∷ 0 ∷ 0 ∷ 2 ∷ 0 ∷ 0 ∷ []) 27
-no_slots = bad_value (omega arith) refl (λ good. lt_irrefl 0 (omega (arith, good.slots.0)))
+no_slots = bad_value (omega arith) refl (λ good. omega (arith, good.slots.0))
 
 -- start 2, B 65 and n 0 get 27: B is above 64
 pub too_many_slots : Gives (0 ∷ 0 ∷ 0 ∷ 2 ∷ 65 ∷ 0 ∷ []) 27
-too_many_slots = bad_value (omega arith) refl (λ good. lt_irrefl 0 (omega (arith, good.slots.1)))
+too_many_slots = bad_value (omega arith) refl (λ good. omega (arith, good.slots.1))
 
 -- B 1 and n 2 with the ids 1 and 2 get 27: n is above B
 pub more_than_slots : Gives (0 ∷ 0 ∷ 0 ∷ 2 ∷ 1 ∷ 2 ∷ 0 ∷ 1 ∷ 0 ∷ 2 ∷ []) 27
 unfolding ids_in
-more_than_slots = bad_value (omega arith) refl (λ good. lt_irrefl 0 (omega (arith, good.count)))
+more_than_slots = bad_value (omega arith) refl (λ good. omega (arith, good.count))
 
 -- B 2 and n 3 with the id 1 and the message 40,000 twice get 27: n counts the messages too
 pub messages_past_slots : Gives (0 ∷ 0 ∷ 0 ∷ 2 ∷ 2 ∷ 3 ∷ 0 ∷ 1 ∷ 156 ∷ 64 ∷ 156 ∷ 64 ∷ []) 27
 unfolding ids_in
-messages_past_slots = bad_value (omega arith) refl (λ good. lt_irrefl 0 (omega (arith, good.count)))
+messages_past_slots = bad_value (omega arith) refl (λ good. omega (arith, good.count))
 
 -- B 1 with the one id 0 gets 27
 pub id_zero : Gives (0 ∷ 0 ∷ 0 ∷ 2 ∷ 1 ∷ 1 ∷ 0 ∷ 0 ∷ []) 27
 unfolding ids_in dec_le
-id_zero = bad_value (omega arith) refl (λ good. lt_irrefl 0 (omega (arith, (good.ids.ids.range 0 mem-cons_self).0)))
+id_zero = bad_value (omega arith) refl (λ good. omega (arith, (good.ids.ids.range 0 mem-cons_self).0))
 
 -- B 2 with 0 behind the id 1 gets 27: 0 is no message
 pub zero_behind : Gives (0 ∷ 0 ∷ 0 ∷ 2 ∷ 2 ∷ 2 ∷ 0 ∷ 1 ∷ 0 ∷ 0 ∷ []) 27
 unfolding ids_in dec_le
-zero_behind = bad_value (omega arith) refl (λ good. lt_irrefl 0 (omega (arith, (good.ids.ids.range 0 (mem-cons_of_mem 1 mem-cons_self)).0)))
+zero_behind = bad_value (omega arith) refl (λ good. omega (arith, (good.ids.ids.range 0 (mem-cons_of_mem 1 mem-cons_self)).0))
 
 -- B 2 with the id 1 twice gets 27
 pub id_twice_in_a_row : Gives (0 ∷ 0 ∷ 0 ∷ 2 ∷ 2 ∷ 2 ∷ 0 ∷ 1 ∷ 0 ∷ 1 ∷ []) 27
@@ -155,16 +155,16 @@ id_twice = bad_value (omega arith) refl (λ good. (Nodup-cons.0 good.ids.ids.onc
 -- B 2 with the message 40,000 and behind it the id 1 gets 27
 pub id_behind : Gives (0 ∷ 0 ∷ 0 ∷ 2 ∷ 2 ∷ 2 ∷ 156 ∷ 64 ∷ 0 ∷ 1 ∷ []) 27
 unfolding ids_in dec_le dec_lt
-id_behind = bad_value (omega arith) refl (λ good. lt_irrefl 0 (omega (arith, ap (λ (l : List ℕ). get_or l 0 0) good.ids.behind)))
+id_behind = bad_value (omega arith) refl (λ good. omega (arith, ap (λ (l : List ℕ). get_or l 0 0) good.ids.behind))
 
 -- The writer: B 261 is 27 and not byte 5; 27 before 28, a bad id with no buffer; 28 for nine bytes where ten are needed.
 pub slots_261 : (buffer : List ℕ) → answer_of (write_refusals (carries 2 261 []) buffer) ≡ 27
-slots_261 buffer = sym (refuses_27 (carries 2 261 []) buffer (λ good. lt_irrefl 0 (omega (arith, good.slots.1)))).answers
+slots_261 buffer = sym (refuses_27 (carries 2 261 []) buffer (λ good. omega (arith, good.slots.1))).answers
 
 -- B 1 and the id 0 need eight bytes: with a buffer of none both refusals apply, and 27 is given
 pub bad_id_no_buffer : answer_of (write_refusals (carries 2 1 (0 ∷ [])) []) ≡ 27
 unfolding dec_le
-bad_id_no_buffer = sym (refuses_27 (carries 2 1 (0 ∷ [])) [] (λ good. lt_irrefl 0 (omega (arith, (good.ids.ids.range 0 mem-cons_self).0)))).answers
+bad_id_no_buffer = sym (refuses_27 (carries 2 1 (0 ∷ [])) [] (λ good. omega (arith, (good.ids.ids.range 0 mem-cons_self).0))).answers
 
 -- start 2, B 2 and the ids 1 and 2 are ten bytes: a buffer of nine gets 28
 pub nine_bytes_of_ten : answer_of (write_refusals (carries 2 2 (1 ∷ 2 ∷ [])) (0 ∷ 0 ∷ 0 ∷ 0 ∷ 0 ∷ 0 ∷ 0 ∷ 0 ∷ 0 ∷ [])) ≡ 28

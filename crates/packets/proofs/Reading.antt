@@ -1,33 +1,52 @@
--- What a reader may say of bytes, from why it answers as it does.
-use Rattle.std.specs.Prelude.{◌≡◌, ℕ, ◌≤◌, length, get_or}
+-- What a reader may say of bytes.
+use Rattle.std.specs.Prelude.{◌≡◌, Bool, ℕ, ◌-◌, ◌≤◌, length, get_or, take, drop}
 use Rattle.std.proofs.Math.Path.{sym, subst⁻¹}
-use Rattle.std.proofs.Common.{ap, ◌∙◌}
+use Rattle.std.proofs.Common.{ap, subst, ◌∙◌, arith}
 use mathlib.Core.List.{List}
-use native.Mathlib.Omega.{arith}
+use Rattle.basics.specs.Decides.{Decides}
+use Rattle.basics.specs.Facts.Decides.{same_as}
 use Rattle.basics.specs.Refusals.{answer_of}
 use Rattle.packet_bytes.specs.Layout.{Values}
-use Rattle.packets.specs.Good.{IsGood}
-use Rattle.packet_bytes.specs.Parts.{start_in, values_in}
-use Rattle.packet_bytes.specs.Facts.Layout.{values_kept, AreBytes, bytes_kept}
-use Rattle.packets.specs.Reading.{HasLength, read_refusals, IsRead}
-use Rattle.packets.specs.Facts.Reading.{good_is_read, read_is_good}
+use Rattle.packet_bytes.specs.Parts.{start_in, ids_in, values_in}
+use Rattle.packet_bytes.specs.Facts.Layout.{AreBytes, bytes_kept}
+use Rattle.packets.specs.Good.{IsGood, IsGoodPacket}
+use Rattle.packets.specs.Reading.{HasLength, read_refusals, refused_read, IsRead}
+use Rattle.packets.specs.Facts.Reading.{values_read, answers_26, answers_27, good_is_read, read_refused}
 
 module _ (p : List ℕ) where
-  -- bytes of the right length with good values in them are answered 0
-  pub answers_0 : AreBytes p → HasLength p → IsGood (values_in p) → 0 ≡ answer_of (read_refusals p)
-  answers_0 small long good = sym (good_is_read p (values_in p, sym (bytes_kept p small long.1), good))
+  -- no good packet is refused, and a refused read gives its number and zeros
+  refused : {number : ℕ} → number ≡ answer_of (read_refusals p) → 1 ≤ number → (IsGoodPacket p → ⊥) × IsRead p (refused_read number)
+  refused same some =
+      (λ good. omega (arith, good_is_read p good), read_refused p same (λ zero. omega arith))
 
-  -- bytes that are not refused are six or more, so that start, B and n are there to be read
-  pub read_has_header : answer_of (read_refusals p) ≡ 0 → 6 ≤ length p
-  read_has_header zero = let is = read_is_good p zero in subst⁻¹ (λ (l : List ℕ). 6 ≤ length l) is.1 (omega arith)
+  -- it is refused with 26 for a wrong length ..
+  pub refuses_26 : (HasLength p → ⊥) → (IsGoodPacket p → ⊥) × IsRead p (refused_read 26)
+  refuses_26 wrong = refused (answers_26 p wrong) (omega arith)
 
-  -- what a read has to give of bytes that are not refused: 0, the start in bytes 0 to 3, byte 4 as B and byte 5 as n
-  pub read_given : {start slots n : ℕ} → answer_of (read_refusals p) ≡ 0 → start ≡ start_in p → slots ≡ get_or p 4 0 → n ≡ get_or p 5 0
-      → IsRead p (record { answer = 0; start = start; slots = slots; n = n })
-  read_given {start} {slots} {n} zero is_start is_slots is_n =
-      let is = read_is_good p zero in
-      let v = is.0 in
-      let a : start ≡ v.start = is_start ∙ ap start_in is.1 ∙ ap (λ (w : Values). w.start) (values_kept v) in
-      let b : slots ≡ v.slots = is_slots ∙ ap (λ (l : List ℕ). get_or l 4 0) is.1 in
-      let c : n ≡ length v.ids = is_n ∙ ap (λ (l : List ℕ). get_or l 5 0) is.1 in
-      record { read = λ _. (v, is.1, is.2, λ i. record { answer = 0; start = a i; slots = b i; n = c i }); refused = λ some. absurd (some zero) }
+  -- .. and with 27 where values of the right length are not good
+  pub refuses_27 : HasLength p → (IsGood (values_in p) → ⊥) → (IsGoodPacket p → ⊥) × IsRead p (refused_read 27)
+  refuses_27 long bad = refused (answers_27 p long bad) (omega arith)
+
+  -- the values that were tested are those in the bytes
+  pub tested : {start slots : ℕ} {ids : List ℕ} {good : Bool} → start ≡ start_in p → slots ≡ get_or p 4 0
+      → ids ≡ ids_in (take (length p - 6) (drop 6 p))
+      → Decides good (IsGood (record { start = start; slots = slots; ids = ids }))
+      → Decides good (IsGood (values_in p))
+  tested start slots ids =
+      let same = values_read p start slots ids in
+      same_as (subst IsGood same) (subst⁻¹ IsGood same)
+
+  -- bytes of the right length with good values in them are a good packet, of which the start, B and n are given
+  pub reads : {start slots n : ℕ} → AreBytes p → HasLength p → start ≡ start_in p → slots ≡ get_or p 4 0 → n ≡ get_or p 5 0 → IsGood (values_in p)
+      → IsGoodPacket p × IsRead p (record { answer = 0; start = start; slots = slots; n = n })
+  reads small long start slots n good =
+      let v : Values = values_in p in
+      let bytes = bytes_kept p small long.1 in
+      let is : IsGoodPacket p = (v, sym bytes, good) in
+      let count : get_or p 5 0 ≡ length v.ids = ap (λ (l : List ℕ). get_or l 5 0) (sym bytes) in (
+        is,
+        record {
+          read = λ _. (v, sym bytes, good, λ i. record { answer = 0; start = start i; slots = slots i; n = (n ∙ count) i });
+          refused = λ some. absurd (some (good_is_read p is));
+        },
+      )

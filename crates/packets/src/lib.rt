@@ -3,20 +3,21 @@
 
 ghost use Rattle.std.specs.Prelude.{◌≡◌, length};
 ghost use Rattle.basics.specs.Decides.{Decides};
-ghost use Rattle.basics.specs.Refusals.{answer_of};
+ghost use Rattle.basics.specs.Answers.{answer};
 ghost use Rattle.basics.specs.Version.{version};
 ghost use Rattle.packets.specs.Good.{IsGood};
-ghost use Rattle.packets.specs.Reading.{read_refusals, IsRead, ids_part};
+ghost use Rattle.packets.specs.Outcome.{IsReading};
+ghost use Rattle.packets.specs.Reading.{IsRead, ids_part};
 ghost use Rattle.packets.specs.Writing.{IsWritten};
 
-use basics::{LAST_START, MOST_SLOTS, is_one_to};
+use basics::{LAST_START, MOST_SLOTS, Refusal, answer, is_one_to};
 use numbers::numbers_are_good;
-use packet_bytes::{ids_of_pairs, start_of_header, wide, write_header_in_room, write_ids_in_room};
+use packet_bytes::{ids_of_pairs, start_of_header, write_header_in_room, write_ids_in_room};
 
 mod ids;
 mod numbers;
 
-// What a reader gives: the start, B and n; or the number of a refusal and zeros.
+// What a reader gives C: the start, B and n; or the number of a refusal and zeros. C has no Result, so the answer stands beside what was read.
 #[repr(C)]
 #[derive(Clone, Copy)]
 pub struct Header {
@@ -42,60 +43,69 @@ pub fn are_good(start: u32, slots: u32, ids: &[u16]) -> bool
     numbers_are_good(ids)
 }
 
+// Writes a packet, or nothing where it is refused.
+fn write(start: u32, slots: u32, ids: &[u16], packet: &mut [u8]) -> Result<(), Refusal>
+    ensures { IsWritten (record { start = start; slots = slots; ids = ids.now }) packet.old packet.new (answer result) }
+{
+    if !are_good(start, slots, ids) {
+        return Err(Refusal::BadValues);
+    }
+    if packet.len() < 6 + 2 * ids.len() {
+        return Err(Refusal::ShortPacketBuffer);
+    }
+    write_header_in_room(packet, start, slots as u8, ids.len() as u8);
+    write_ids_in_room(&mut packet[6..], ids);
+    Ok(())
+}
+
 // Annex 10.4, 10.5: writes a packet; 27 for a value that is not good, 28 for a buffer too short, both with nothing written.
 pub fn packet_write<'a>(start: u32, slots: u32, ids: &'a [u16], packet: &'a mut [u8]) -> u32
     ensures { IsWritten (record { start = start; slots = slots; ids = ids.now }) packet.old packet.new result }
 {
-    if !are_good(start, slots, ids) {
-        return 27;
-    }
-    if packet.len() < 6 + 2 * ids.len() {
-        return 28;
-    }
-    write_header_in_room(packet, start, slots as u8, ids.len() as u8);
-    write_ids_in_room(&mut packet[6..], ids);
-    0
+    answer(write(start, slots, ids, packet))
 }
 
-// 26 for a wrong length, 27 for a value that is not good, else 0. Numbers past the largest B are not read: no good packet has so many.
-fn read_refusal(packet: &[u8]) -> u32
-    ensures { result ≡ answer_of (read_refusals packet.now) }
+// Reads a packet. Numbers past the largest B are not read: no good packet has so many. A call of it would hand its result over in memory.
+#[inline(always)]
+fn read(packet: &[u8]) -> Result<Header, Refusal>
+    ensures { IsReading packet.now result }
 {
     if packet.len() < 6 {
-        return 26;
+        return Err(Refusal::WrongLength);
     }
-    let n = wide(packet[5]) as usize;
+    let n = usize::from(packet[5]);
     if packet.len() != 6 + 2 * n {
-        return 26;
+        return Err(Refusal::WrongLength);
     }
     if (MOST_SLOTS as usize) < n {
-        return 27;
+        return Err(Refusal::BadValues);
     }
+    let start = start_of_header(packet);
+    let slots = u32::from(packet[4]);
     let ids = ids_of_pairs(&packet[6..], n);
-    if !are_good(start_of_header(packet), wide(packet[4]), &ids[..n]) {
-        return 27;
+    if !are_good(start, slots, &ids[..n]) {
+        return Err(Refusal::BadValues);
     }
-    0
+    Ok(Header {
+        answer: 0,
+        start,
+        slots,
+        n: n as u32,
+    })
 }
 
-// Annex 10.6, 10.7: reads a packet.
+// Annex 10.6, 10.7: reads a packet; 26 for a wrong length, 27 for a value that is not good.
 pub fn packet_read(packet: &[u8]) -> Header
     ensures { IsRead packet.now result }
 {
-    let answer = read_refusal(packet);
-    if answer != 0 {
-        return Header {
-            answer,
+    match read(packet) {
+        Ok(header) => header,
+        Err(refusal) => Header {
+            answer: u32::from(refusal),
             start: 0,
             slots: 0,
             n: 0,
-        };
-    }
-    Header {
-        answer: 0,
-        start: start_of_header(packet),
-        slots: wide(packet[4]),
-        n: wide(packet[5]),
+        },
     }
 }
 
@@ -103,10 +113,10 @@ pub fn packet_read(packet: &[u8]) -> Header
 pub fn packet_ids(packet: &[u8]) -> &[u8]
     ensures { result.now ≡ ids_part packet.now }
 {
-    if 0 < read_refusal(packet) {
-        return &packet[..0];
+    match read(packet) {
+        Ok(_) => &packet[6..],
+        Err(_) => &packet[..0],
     }
-    &packet[6..]
 }
 
 // Annex 10.8: how long that part is: C takes so many bytes from byte 6 of its packet on.

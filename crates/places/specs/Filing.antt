@@ -17,10 +17,14 @@ pub record CanFile (ids keys releases : List ℕ) (n : ℕ) : Type 0 where
   pub released : (i : ℕ) → i < n → get_or releases i 0 ≤ get_or keys i 0
   pub span : (i j : ℕ) → i < n → j < n → get_or keys i 0 ≤ get_or keys j 0 + key_span
 
--- r is which of the first n rows this entry is, or 64 where it is none of them.
+-- r is which of the first n rows this entry is.
 pub record IsRow (ids keys releases : List ℕ) (n : ℕ) (e : Entry) (r : ℕ) : Type 0 where
-  pub found : (r ≡ places → ⊥) → (r < n) × (row_of ids keys releases r ≡ e)
-  pub absent : r ≡ places → (i : ℕ) → i < n → row_of ids keys releases i ≡ e → ⊥
+  pub within : r < n
+  pub is : row_of ids keys releases r ≡ e
+
+-- This entry is none of the first n rows.
+abbrev pub IsNoRow : (ids keys releases : List ℕ) → ℕ → Entry → Type 0
+IsNoRow ids keys releases n e = (i : ℕ) → i < n → row_of ids keys releases i ≡ e → ⊥
 
 -- A place that holds an entry, said of entries by place.
 abbrev pub Filled : (ℕ → Entry) → ℕ → Type 0

@@ -15,12 +15,6 @@ AllWithin ids values tops = Below places (λ i. KeyWithin (ids i) (values i) (to
 abbrev pub KeysWithin : (ids keys : ℕ → ℕ) → ℕ → Type 0
 KeysWithin ids keys top = AllWithin ids keys (λ _. top)
 
--- The smaller of m and the key at a place, where a free place has none.
-pub record IsLesser (id key m r : ℕ) : Type 0 where
-  pub at_most : r ≤ m
-  pub at_most_key : KeyWithin id r key
-  pub reached : (r ≡ m) ⊎ ((1 ≤ id) × (r ≡ key))
-
 -- r is at most the key at each of the first n places that hold an entry, and is one of these keys, or the limit on keys.
 pub record IsLeast (ids keys : ℕ → ℕ) (n r : ℕ) : Type 0 where
   pub bounded : r ≤ largest_key

@@ -1,70 +1,68 @@
 // Whether places hold just the rows of key, release and id that they are compared with, in one pass over them.
+ghost use Rattle.std.specs.Prelude.{◌≡◌, ◌<◌, MatchOption};
 ghost use Rattle.basics.specs.Decides.{Decides};
-ghost use Rattle.places.specs.Order.{triple};
-ghost use Rattle.places.specs.Entries.{row_of};
-ghost use Rattle.places.specs.Filing.{CanFile, IsRow, PlacesFile};
+ghost use Rattle.basics.specs.Limits.{places};
+ghost use Rattle.places.specs.Lent.{as_entry, row_in, CanFileRows, IsRowAt, IsNoRowAt, FileRows};
 
-use basics::{PLACES, place_among_rising, wide};
+use crate::{Entry, Places};
+use basics::{PLACES, place_among_rising};
 
-// Which of the first `count` rows this is, or 64 where it is none of them.
-fn row_in_range<'a>(
-    ids: &'a [u32; 64],
-    keys: &'a [u32; 64],
-    releases: &'a [u32; 64],
-    count: usize,
-    id: u32,
-    key: u32,
-    release: u32,
-) -> usize
-    requires { CanFile ids.now keys.now releases.now count }
-    ensures { IsRow ids.now keys.now releases.now count (triple key release id) result }
-{
-    let i = place_among_rising(ids, id);
-    if count <= i {
-        return PLACES;
-    }
-    if ids[i] != id {
-        return PLACES;
-    }
-    if keys[i] != key {
-        return PLACES;
-    }
-    if releases[i] != release {
-        return PLACES;
-    }
-    i
+// Rows of key, release and id in ascending id, the first `count` of 64, lent column by column. The look-up by halving goes over all 64 ids.
+#[derive(Clone, Copy)]
+pub struct Rows<'a> {
+    pub ids: &'a [u32; 64],
+    pub keys: &'a [u32; 64],
+    pub releases: &'a [u32; 64],
+    pub count: usize,
 }
 
-// Whether the places hold just the first `count` rows, each once: every place holds one that no earlier place has, and as many are met.
-pub fn places_file_in_range<'a>(
-    filed: &'a [u16; 64],
-    under: &'a [u32; 64],
-    since: &'a [u32; 64],
-    ids: &'a [u32; 64],
-    keys: &'a [u32; 64],
-    releases: &'a [u32; 64],
-    count: usize,
-) -> bool
-    requires { CanFile ids.now keys.now releases.now count }
-    ensures { Decides result (PlacesFile (row_of filed.now under.now since.now) (row_of ids.now keys.now releases.now) count) }
-{
-    let mut met = [0u8; 64];
-    let mut n: usize = 0;
-    let mut x: usize = 0;
-    while x < PLACES {
-        let id = wide(filed[x]);
-        if 0 < id {
-            let i = row_in_range(ids, keys, releases, count, id, under[x], since[x]);
-            if i == PLACES {
-                return false;
-            }
-            if met[i] != 0 {
-                return false;
-            }
-            met[i] = 1;
-            n += 1;
+impl<'a> Rows<'a> {
+    fn row(self, i: usize) -> Entry
+        requires { i < places }
+        ensures { as_entry result ≡ row_in self.entry i }
+    {
+        Entry {
+            key: self.keys[i],
+            release: self.releases[i],
+            id: self.ids[i],
         }
-        x += 1;
     }
-    n == count
+}
+
+impl<'a> Places<'a> {
+    // Which of the rows stands at place x.
+    fn row_at(self, rows: Rows, x: usize) -> Option<usize>
+        requires small { x < places }
+        requires can_file { CanFileRows rows }
+        ensures { MatchOption result (IsNoRowAt self.entry rows.entry x) (IsRowAt self.entry rows.entry x) }
+    {
+        let entry = self.entry_at(x);
+        let i = place_among_rising(rows.ids, entry.id);
+        if i < rows.count && rows.row(i) == entry {
+            return Some(i);
+        }
+        None
+    }
+
+    // Whether the places hold just these rows, each once: every place holds one that no earlier place has, and as many are met.
+    pub fn file_in_range(self, rows: Rows) -> bool
+        requires { CanFileRows rows }
+        ensures { Decides result (FileRows self.entry rows.entry) }
+    {
+        let mut met = [false; 64];
+        let mut n: usize = 0;
+        for x in 0..PLACES {
+            if 0 < self.ids[x] {
+                let Some(i) = self.row_at(rows, x) else {
+                    return false;
+                };
+                if met[i] {
+                    return false;
+                }
+                met[i] = true;
+                n += 1;
+            }
+        }
+        n == rows.count
+    }
 }

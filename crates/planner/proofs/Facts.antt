@@ -10,4 +10,4 @@ pub mod Changes
 pub mod Add
 pub mod Choosing
 pub mod Serving
-pub mod Round
+pub mod Refused

@@ -1,11 +1,13 @@
 -- What add and remove answer and leave: Annex, chapter 7.
-use Rattle.std.specs.Prelude.{◌≡◌, List, [], ◌∷◌, ◌++◌, ℕ, ◌+◌, ◌≤◌, ◌<◌, length}
+use Rattle.std.specs.Prelude.{◌≡◌, Result, List, [], ◌∷◌, ◌++◌, ℕ, ◌+◌, ◌≤◌, ◌<◌, length}
 use Rattle.std.proofs.Math.Logic.Dec.{and as Dec-and, not as Dec-not}
 use Rattle.std.specs.Int.{◌∣◌}
 use Rattle.std.proofs.Math.Decide.{dec_le, dec_dvd}
 use Rattle.basics.specs.OneTo.{OneTo, decide_one_to, not_in}
 use Rattle.basics.specs.Limits.{places, largest_id, furthest_release, longest_period}
 use Rattle.basics.specs.Refusals.{Refusal, answer_of}
+use Rattle.basics.specs.Answers.{answer}
+use Rattle.basics.specs.declared.refusals.Refusal.{Refusal as Named}
 use Rattle.rules.specs.Demand.{DemandRule, StartRule}
 use Rattle.rules.proofs.Decide.{decide_demand_rule, decide_start_rule}
 use Rattle.table.specs.declared.Record.{Record}
@@ -127,6 +129,10 @@ pub record IsChange (refusals : List Refusal) (p : Planner) (h : Content) (r : C
   pub answer : r.answer ≡ answer_of refusals
   pub refused : (answer_of refusals ≡ 0 → ⊥) → r.planner ≡ p
   pub changed : answer_of refusals ≡ 0 → IsSoundWith h r.planner
+
+-- Annex 7.2: what a change answers by its outcome, and the planner after it.
+abbrev pub changed_by : Result (Unit {0}) Named → Planner → Changed
+changed_by outcome p = record { answer = answer outcome; planner = p }
 
 -- Annex 7.20: what add does: it is refused by the refusals of add, or leaves a sound planner that holds the new record too.
 abbrev pub IsAdd : Planner → Offer → Changed → Type 0

@@ -1,11 +1,9 @@
 -- What the inner functions of the crate promise one another.
-use Rattle.std.specs.Prelude.{◌≡◌, List, ℕ, ◌≤◌, ◌<◌, length, take, get_or}
+use Rattle.std.specs.Prelude.{◌≡◌, List, ℕ, ◌+◌, ◌≤◌, ◌<◌, length, take, get_or, set, replicate}
 use Rattle.basics.specs.Limits.{last_start, most_waiting}
-use Rattle.basics.specs.Refusals.{answer_of}
 use Rattle.rules.specs.Demand.{DemandRule, StartRule}
 use Rattle.table.specs.Table.{record_at}
 use Rattle.table.specs.declared.Record.{Record}
-use Rattle.table.specs.Needs.{HasRecords}
 use Rattle.table.specs.declared.Table.{Table}
 use Rattle.queue.specs.Interface.{IsPlacedAt}
 use Rattle.queue.specs.declared.Queue.{Queue}
@@ -15,11 +13,10 @@ use Rattle.messages.specs.declared.Waiting.{Waiting}
 use Rattle.state.specs.Content.{Content, content, slots_of, streams_in, now_of}
 use Rattle.state.specs.Sound.{Sound}
 use Rattle.planner.specs.declared.Offer.{Offer}
-use Rattle.planner.specs.AddRemove.{add_refusals, added, IsWellFormed}
-use Rattle.planner.specs.Round.{ids_at, left_at, round_refusals}
-use Rattle.state.specs.Start.{IsStart}
+use Rattle.planner.specs.AddRemove.{added, IsWellFormed}
+use Rattle.planner.specs.Round.{ids_at, left_at}
+use Rattle.state.specs.Needs.{StartsAt}
 use Rattle.state.specs.declared.Planner.{Planner}
-use Rattle.planner.specs.declared.offers.Tested.{Tested}
 use Rattle.planner.specs.declared.slots.Chosen.{Chosen}
 
 -- The planner with another last start, table and queue.
@@ -37,11 +34,6 @@ pub record CanAdd (p : Planner) (o : Offer) : Type 0 where
   pub demand_rule : DemandRule (slots_of (content p)) (streams_in (added (content p) o))
   pub start_rule : StartRule (slots_of (content p)) (now_of (content p)) (streams_in (added (content p) o))
 
--- The answer of add, and where it is 0 the table with the stream, which can be taken in.
-pub record IsTested (p : Planner) (o : Offer) (r : Tested) : Type 0 where
-  pub answer : r.answer ≡ answer_of (add_refusals p o)
-  pub can_add : r.answer ≡ 0 → CanAdd p o × HasRecords (added (content p) o).table r.table
-
 -- What sending relies on: that none of 5, 29 and 30 applies.
 pub record CanSend (p : Planner) (n : ℕ) : Type 0 where
   pub sound : Sound p
@@ -49,14 +41,24 @@ pub record CanSend (p : Planner) (n : ℕ) : Type 0 where
   pub on : p.setting.messages ≡ 1
   pub place_free : p.waiting.count < most_waiting
 
--- The answer of round for a buffer of this length.
-abbrev pub IsRoundAnswer : Planner → ℕ → ℕ → Type 0
-IsRoundAnswer p n r = (buffer : List ℕ) → length buffer ≡ n → r ≡ answer_of (round_refusals p buffer)
+-- A round can be held at s with a buffer of this length.
+pub record CanHold (p : Planner) (s length : ℕ) : Type 0 where
+  pub at_start : StartsAt p s
+  pub by_last : s ≤ last_start
+  pub long : p.setting.slots ≤ length
 
--- The slots are asked for at the start of a sound planner.
-pub record CanChoose (p : Planner) (s : ℕ) : Type 0 where
-  pub sound : Sound p
-  pub start : IsStart (content p) s
+-- None is chosen yet.
+abbrev pub none_chosen : Chosen
+none_chosen = record { placed = record { ids = replicate 64 0; places = replicate 64 0 }; rows = replicate 64 0; n = 0 }
+
+-- One more chosen: an id, with its place and its row.
+abbrev pub with_chosen : Chosen → (id place row : ℕ) → Chosen
+with_chosen chosen id place row =
+    record {
+      placed = record { ids = set chosen.placed.ids chosen.n id; places = set chosen.placed.places chosen.n place };
+      rows = set chosen.rows chosen.n row;
+      n = chosen.n + 1;
+    }
 
 -- The ids of a round's slots, in their order.
 pub record IsChosen (h : Content) (s : ℕ) (chosen : Chosen) : Type 0 where
@@ -77,7 +79,7 @@ AreFound table queue chosen =
 
 -- What serving the slots relies on: they are those of the start of a sound planner, which is not late, each id beside its row and place.
 pub record CanServeAll (p : Planner) (s : ℕ) (chosen : Chosen) : Type 0 where
-  pub can_choose : CanChoose p s
+  pub at_start : StartsAt p s
   pub by_last : s ≤ last_start
   pub is_chosen : IsChosen (content p) s chosen
   pub are_found : AreFound p.table p.queue chosen

@@ -1,9 +1,11 @@
 -- What round answers and leaves: Annex, chapter 7.
-use Rattle.std.specs.Prelude.{◌≡◌, ℕ, ◌-◌, ◌<◌, length, take, drop}
+use Rattle.std.specs.Prelude.{◌≡◌, Result, Ok, Err, ℕ, ◌-◌, ◌<◌, length, take, drop}
 use Rattle.std.proofs.Math.Logic.{ite}
 use mathlib.Core.List.{List, [], ◌∷◌, ◌++◌, map, dec_mem}
 use Rattle.std.proofs.Math.Decide.{dec_lt, ℕ_discrete}
 use Rattle.basics.specs.Refusals.{Refusal, answer_of}
+use Rattle.basics.specs.Answers.{number_of}
+use Rattle.basics.specs.declared.refusals.Refusal.{Refusal as Named}
 use Rattle.rules.specs.Streams.{Stream}
 use Rattle.rules.specs.Slots.{slots}
 use Rattle.table.specs.Changes.{sent}
@@ -13,6 +15,7 @@ use Rattle.state.proofs.Decide.{decide_sound, decide_late}
 use Rattle.planner.specs.AddRemove.{unsound, IsSoundWith}
 use Rattle.state.specs.declared.Planner.{Planner}
 use Rattle.planner.specs.declared.Rounded.{Rounded}
+use Rattle.planner.specs.declared.HeldRound.{HeldRound}
 use Rattle.state.specs.Start.{IsStart, StartsLate}
 
 -- Annex 7.26: 16 if the buffer has fewer than B elements, however many numbers there are to write.
@@ -71,3 +74,8 @@ pub record IsRound (p : Planner) (before after : List ℕ) (r : Rounded) : Type 
   pub answer : r.answer ≡ answer_of (round_refusals p before)
   pub refused : (answer_of (round_refusals p before) ≡ 0 → ⊥) → IsRefusedRound p before after r
   pub held : answer_of (round_refusals p before) ≡ 0 → IsHeldRound p before after r
+
+-- Annex 7.2, 7.31: what a round answers by its outcome, and the planner after it: 0 for start and n where it is refused.
+abbrev pub rounded_by : Result HeldRound Named → Planner → Rounded
+rounded_by (Ok held) p = record { answer = 0; planner = p; start = held.start; n = held.n }
+rounded_by (Err refusal) p = record { answer = number_of refusal; planner = p; start = 0; n = 0 }

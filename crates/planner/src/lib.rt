@@ -1,19 +1,22 @@
 // The lazy round planner: a planner goes in by value and comes back by value. What it is and when it is sound, the crate state has.
+// Each call stands on one that changes a planner in place.
 #![tactic(auto)]
 
 ghost use Rattle.std.specs.Prelude.{◌≡◌, take};
-ghost use Rattle.planner.specs.AddRemove.{IsRemove};
+ghost use Rattle.planner.specs.AddRemove.{offer, IsAdd, IsRemove};
+ghost use Rattle.planner.specs.Send.{IsSend};
 ghost use Rattle.planner.specs.Round.{IsRound};
-ghost use Rattle.state.specs.Needs.{IsSoundStart};
-ghost use Rattle.planner.specs.Needs.{IsRoundAnswer};
 
-use basics::LAST_START;
-pub use offers::add;
-pub use sending::send;
+use basics::answer;
+use offers::take_in;
+use removal::take_out;
+use rounds::hold;
+use sending::let_wait;
 pub use state::{Changed, Planner, Setting, open, sound_start};
 
 mod offers;
 mod removal;
+mod rounds;
 mod sending;
 mod slots;
 
@@ -26,7 +29,15 @@ pub struct Offer {
     pub deadline: u32,
 }
 
+// A round that is held: its start and the count of numbers written.
+#[derive(Clone, Copy)]
+pub struct HeldRound {
+    pub start: u32,
+    pub n: u32,
+}
+
 // What a round answers: its start and the count of numbers written, both 0 if refused, and the planner after it.
+// The answer is a number beside them, since a refused round gives its zeros and its planner too (Annex 7.31; `IsRound`, theorem `same_outcomes`).
 #[derive(Clone, Copy)]
 pub struct Rounded {
     pub answer: u32,
@@ -35,63 +46,62 @@ pub struct Rounded {
     pub n: u32,
 }
 
-// Annex 7.22, 7.23: takes a stream out, and its waiting packet with it.
-pub fn remove(p: Planner, id: u32) -> Changed
-    ensures { IsRemove p id result }
+// Annex 7.10 to 7.20: takes a stream in, whose first packet is released at `start`.
+pub fn add(mut p: Planner, id: u32, start: u32, period: u32, deadline: u32) -> Changed
+    ensures { IsAdd p (offer id start period deadline) result }
 {
-    let answer = removal::remove_refusal(p, id);
-    if answer != 0 {
-        return Changed { answer, planner: p };
+    let offer = Offer {
+        id,
+        start,
+        period,
+        deadline,
+    };
+    let outcome = take_in(&mut p, offer);
+    Changed {
+        answer: answer(outcome),
+        planner: p,
     }
-    let planner = removal::remove_sound(p, id);
-    Changed { answer: 0, planner }
 }
 
-// What round refuses, once the test of soundness has given the start.
-fn round_refusal_tested(p: Planner, start: u32, length: usize) -> u32
-    requires { IsSoundStart p start }
-    ensures { IsRoundAnswer p length result }
+// Annex 7.22, 7.23: takes a stream out, and its waiting packet with it.
+pub fn remove(mut p: Planner, id: u32) -> Changed
+    ensures { IsRemove p id result }
 {
-    if start == 0 {
-        return 5;
+    let outcome = take_out(&mut p, id);
+    Changed {
+        answer: answer(outcome),
+        planner: p,
     }
-    if length < p.setting.slots as usize {
-        return 16;
+}
+
+// Annex 7.41 to 7.45: a message joins those that wait.
+pub fn send(mut p: Planner, number: u32) -> Changed
+    ensures { IsSend p number result }
+{
+    let outcome = let_wait(&mut p, number);
+    Changed {
+        answer: answer(outcome),
+        planner: p,
     }
-    if LAST_START < start {
-        return 17;
-    }
-    0
 }
 
 // Annex 7.24 to 7.32, 7.46, 7.47: holds the next round; its ids, and behind them messages, go to the first n elements of the buffer.
-pub fn round(p: Planner, buffer: &mut [u16]) -> Rounded
+pub fn round(mut p: Planner, buffer: &mut [u16]) -> Rounded
     ensures { IsRound p buffer.old buffer.new result }
 {
-    let start = sound_start(p);
-    let answer = round_refusal_tested(p, start, buffer.len());
-    if answer != 0 {
-        return Rounded {
-            answer,
+    match hold(&mut p, buffer) {
+        Ok(held) => Rounded {
+            answer: 0,
+            planner: p,
+            start: held.start,
+            n: held.n,
+        },
+        Err(refusal) => Rounded {
+            answer: u32::from(refusal),
             planner: p,
             start: 0,
             n: 0,
-        };
-    }
-    let chosen = slots::choose_sound(p, start);
-    let placed = chosen.placed;
-    let ids = placed.ids;
-    let free = p.setting.slots as usize - chosen.n;
-    let listed = messages::list_in_range(ids, chosen.n, free, p.waiting);
-    let numbers = listed.numbers;
-    slots::write_in_range(buffer, numbers, listed.n);
-    let left = listed.left;
-    let planner = slots::serve_sound(p, chosen, start, left);
-    Rounded {
-        answer: 0,
-        planner,
-        start,
-        n: listed.n as u32,
+        },
     }
 }
 
@@ -99,10 +109,5 @@ pub fn round(p: Planner, buffer: &mut [u16]) -> Rounded
 pub fn filled(buffer: &[u16], n: u32) -> &[u16]
     ensures { result.now ≡ take n buffer.now }
 {
-    let count = n as usize;
-    if count <= buffer.len() {
-        &buffer[..count]
-    } else {
-        buffer
-    }
+    &buffer[..buffer.len().min(n as usize)]
 }

@@ -1,159 +1,110 @@
 // A stream offered to a planner: whether it is refused, and the planner that takes it in.
-ghost use Rattle.std.specs.Prelude.{◌≡◌, ◌∷◌};
+ghost use Rattle.std.specs.Prelude.{◌≡◌, ◌∷◌, OnOk, IfOk};
+ghost use Rattle.basics.specs.Answers.{answer};
 ghost use Rattle.basics.specs.Refusals.{answer_of};
 ghost use Rattle.table.specs.Needs.{HasRecords};
 ghost use Rattle.state.specs.Content.{content};
 ghost use Rattle.state.specs.Sound.{Sound};
-ghost use Rattle.planner.specs.AddRemove.{offer, unsound, offer_refusals, rule_refusals, added, IsSoundWith, IsAdd};
-ghost use Rattle.planner.specs.Needs.{CanAdd, CanTest, IsTested};
+ghost use Rattle.planner.specs.AddRemove.{unsound, offer_refusals, rule_refusals, add_refusals, added, IsAdd, changed_by};
+ghost use Rattle.planner.specs.Needs.{CanAdd, CanTest};
 
 use super::Offer;
-use basics::{FURTHEST_RELEASE, LARGEST_ID, LONGEST_PERIOD, PLACES, is_one_to};
-use state::{Changed, Planner, sound_start};
-use table::{Record, Table};
+use basics::{FURTHEST_RELEASE, LARGEST_ID, LONGEST_PERIOD, PLACES, Refusal, is_one_to};
+use state::{Planner, sound_start};
+use table::{Record, Table, busy_length_in_range, next_start_in_range};
 
 // 6 to 11: what speaks of the stream alone. Nothing is added to its start, which can be any number.
-fn offer_refusal_sound(p: Planner, offer: Offer) -> u32
-    requires { Sound p }
-    ensures { result ≡ answer_of (offer_refusals (content p) offer) }
+#[tactic(auto, using(crate::proofs::Facts::Refused::offer_tests))]
+fn offer_refusal_sound(p: &Planner, offer: Offer) -> Result<(), Refusal>
+    requires { Sound p.now }
+    ensures answers { answer result ≡ answer_of (offer_refusals (content p.now) offer) }
+    ensures passed { OnOk result (CanTest p.now offer) }
 {
+    // As a slice, whose length a proof knows.
+    let _places: &[Record] = &p.table.streams;
     if !is_one_to(offer.id, LARGEST_ID) {
-        return 6;
+        return Err(Refusal::BadId);
     }
-    let table = p.table;
-    if table::has_id_in_range(table, offer.id) {
-        return 7;
+    if p.table.has_id_in_range(offer.id) {
+        return Err(Refusal::IdTaken);
     }
-    if table.count == PLACES {
-        return 8;
+    if p.table.count == PLACES {
+        return Err(Refusal::Full);
     }
-    if !is_one_to(offer.period, LONGEST_PERIOD) {
-        return 9;
-    }
-    if p.setting.frame % offer.period != 0 {
-        return 9;
+    if !is_one_to(offer.period, LONGEST_PERIOD) || !p.setting.frame.is_multiple_of(offer.period) {
+        return Err(Refusal::BadPeriod);
     }
     if !is_one_to(offer.deadline, offer.period) {
-        return 10;
+        return Err(Refusal::BadDeadline);
     }
     let now = p.last + 1;
-    if offer.start < now {
-        return 11;
+    if offer.start < now || now + FURTHEST_RELEASE < offer.start {
+        return Err(Refusal::BadRelease);
     }
-    if now + FURTHEST_RELEASE < offer.start {
-        return 11;
-    }
-    0
+    Ok(())
 }
 
 // 5 to 11: what speaks of the planner as it is, and of the stream alone.
-fn offer_refusal(p: Planner, offer: Offer) -> u32
-    ensures { result ≡ answer_of (unsound p ∷ offer_refusals (content p) offer) }
+#[tactic(auto, using(crate::proofs::Facts::Refused::not_sound, crate::proofs::Facts::Refused::is_sound))]
+fn offer_refusal(p: &Planner, offer: Offer) -> Result<(), Refusal>
+    ensures answers { answer result ≡ answer_of (unsound p.now ∷ offer_refusals (content p.now) offer) }
+    ensures passed { OnOk result (CanTest p.now offer) }
 {
-    if sound_start(p) == 0 {
-        return 5;
-    }
+    sound_start(p).ok_or(Refusal::NotSound)?;
     offer_refusal_sound(p, offer)
 }
 
 // The table with the stream.
-fn table_with_sound(p: Planner, offer: Offer) -> Table
-    requires { CanTest p offer }
-    ensures { HasRecords (added (content p) offer).table result }
+fn table_with_sound(p: &Planner, offer: Offer) -> Table
+    requires { CanTest p.now offer }
+    ensures { HasRecords (added (content p.now) offer).table result }
 {
-    let stream = Record {
+    // As a slice, whose length a proof knows.
+    let _places: &[Record] = &p.table.streams;
+    let mut table = p.table;
+    table.put_in_range(Record {
         id: offer.id,
         period: offer.period,
         deadline: offer.deadline,
         release: offer.start,
-    };
-    let table = p.table;
-    table::put_in_range(table, stream)
+    });
+    table
 }
 
 // 12 and 13: the two rules on the table with the stream.
-fn rule_refusal_sound(p: Planner, offer: Offer, table: Table) -> u32
-    requires { CanTest p offer × HasRecords (added (content p) offer).table table }
-    ensures { result ≡ answer_of (rule_refusals (added (content p) offer)) }
+#[tactic(auto, using(crate::proofs::Facts::Add::rule_tests))]
+fn rule_refusal_sound(p: &Planner, offer: Offer, table: &Table) -> Result<(), Refusal>
+    requires { CanTest p.now offer × HasRecords (added (content p.now) offer).table table.now }
+    ensures answers { answer result ≡ answer_of (rule_refusals (added (content p.now) offer)) }
+    ensures passed { OnOk result (CanAdd p.now offer) }
 {
-    let busy = table::busy_length_in_range(
-        table,
-        p.setting.slots - p.setting.messages,
-        p.setting.frame,
-    );
-    if busy == 0 {
-        return 12;
-    }
+    let slots = p.setting.stream_slots();
+    let busy = busy_length_in_range(table, slots, p.setting.frame).ok_or(Refusal::BreaksDemand)?;
     // Whether there is a start does not depend on the cap, if that is not before now: now is given for it.
     let now = p.last + 1;
-    if table::next_start_in_range(table, p.setting.slots - p.setting.messages, now, now, busy)
-        == 0
-    {
-        return 13;
-    }
-    0
+    next_start_in_range(table, slots, now, now, busy).ok_or(Refusal::BreaksStart)?;
+    Ok(())
 }
 
-// What add answers, and the table that the two rules were tested on, if it came to that.
-#[derive(Clone, Copy)]
-struct Tested {
-    pub answer: u32,
-    pub table: Table,
-}
-
-// The table with the stream is built once: it is tested here, and it is the one stored.
-fn test_offer(p: Planner, offer: Offer) -> Tested
-    ensures { IsTested p offer result }
+// 5 to 13. The table with the stream is built once: it is tested here, and it is the one stored.
+#[tactic(auto, using(crate::proofs::Facts::Add::add_tests))]
+fn test_offer(p: &Planner, offer: Offer) -> Result<Table, Refusal>
+    ensures answers { answer result ≡ answer_of (add_refusals p.now offer) }
+    ensures passed { IfOk result (λ table. CanAdd p.now offer × HasRecords (added (content p.now) offer).table table) }
 {
-    let refused = offer_refusal(p, offer);
-    if refused != 0 {
-        let before = p.table;
-        return Tested {
-            answer: refused,
-            table: before,
-        };
-    }
+    offer_refusal(p, offer)?;
     let table = table_with_sound(p, offer);
-    let answer = rule_refusal_sound(p, offer, table);
-    Tested { answer, table }
+    rule_refusal_sound(p, offer, &table)?;
+    Ok(table)
 }
 
-// The planner has the table with the stream, and the queue has the stream under its due time.
-fn add_sound(p: Planner, offer: Offer, table: Table) -> Planner
-    requires { CanAdd p offer × HasRecords (added (content p) offer).table table }
-    ensures { IsSoundWith (added (content p) offer) result }
+// The planner has the table with the stream, and the queue has the stream under its due time. Refused, the planner stays as it is.
+#[tactic(auto, using(crate::proofs::Facts::Changes::change_done, crate::proofs::Facts::Add::taken_in))]
+pub fn take_in(p: &mut Planner, offer: Offer) -> Result<(), Refusal>
+    ensures { IsAdd p.old offer (changed_by result p.new) }
 {
-    let filed = p.queue;
-    let queue = queue::insert_sound(filed, offer.id, offer.start + offer.deadline, offer.start);
-    let mut after = p;
-    after.table = table;
-    after.queue = queue;
-    after
-}
-
-// A refused offer leaves the planner as it was.
-fn add_offer(p: Planner, offer: Offer) -> Changed
-    ensures { IsAdd p offer result }
-{
-    let tested = test_offer(p, offer);
-    let answer = tested.answer;
-    if answer != 0 {
-        return Changed { answer, planner: p };
-    }
-    let table = tested.table;
-    let planner = add_sound(p, offer, table);
-    Changed { answer: 0, planner }
-}
-
-// Annex 7.10 to 7.20: takes a stream in, whose first packet is released at `start`.
-pub fn add(p: Planner, id: u32, start: u32, period: u32, deadline: u32) -> Changed
-    ensures { IsAdd p (offer id start period deadline) result }
-{
-    let offer = Offer {
-        id,
-        start,
-        period,
-        deadline,
-    };
-    add_offer(p, offer)
+    p.table = test_offer(p, offer)?;
+    let due = offer.start + offer.deadline;
+    p.queue.insert_sound(offer.id, due, offer.start);
+    Ok(())
 }

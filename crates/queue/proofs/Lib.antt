@@ -1,3 +1,3 @@
 -- Laws that the proofs of several functions cite.
-pub mod Shape
+mod Tests
 mod Refused

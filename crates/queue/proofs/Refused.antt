@@ -1,5 +1,5 @@
 -- The answers of insert, delete and move: each test of the code, in its order, is a refusal of the list.
-use mathlib.Core.Path.{◌≡◌, refl, sym, ◌∙◌}
+use mathlib.Core.Path.{◌≡◌, sym, ◌∙◌}
 use mathlib.Core.Logic.Dec
 use mathlib.Core.List.{List, [], ◌∷◌}
 use Prim.Native.Nat.{ℕ, ◌≤◌, ◌<◌}
@@ -15,24 +15,9 @@ use Rattle.places.specs.Entries.{put, Filed, InBounds}
 use Rattle.places.specs.Decide.{decide_filed, decide_in_bounds}
 use Rattle.queue.specs.Layout.{entries, Sound}
 use Rattle.queue.specs.Layout.Decide.{decide_sound}
-use Rattle.queue.specs.Calls.{unsound, bad_id, full, filed, out_of_bounds, not_filed, moved, insert_refusals, delete_refusals, move_refusals, HasEntries, IsChange}
+use Rattle.queue.specs.Calls.{unsound, bad_id, full, filed, out_of_bounds, not_filed, moved, insert_refusals, delete_refusals, move_refusals}
 use Rattle.queue.specs.Linking.{CanInsert, CanDelete, CanMove}
 use Rattle.queue.specs.declared.Queue.{Queue}
-
--- a refused change hands the queue back ..
-pub change_refused : {rs : List Refusal} {q : Queue} {es : List Entry} {a : ℕ} → a ≡ answer_of rs → (a ≡ 0 → ⊥) → IsChange rs q es (record { answer = a; queue = q })
-change_refused is some =
-    record { answer = is; refused = λ _. refl; sound = λ zero. absurd (some (is ∙ zero)); content = λ zero. absurd (some (is ∙ zero)) }
-
--- .. and one that is not refused has the entries
-pub change_done :
-    {rs : List Refusal} {q r : Queue} {es : List Entry} {a : ℕ}
-    → a ≡ answer_of rs
-    → a ≡ 0
-    → HasEntries r es
-    → IsChange rs q es (record { answer = 0; queue = r })
-change_done is zero has =
-    record { answer = sym zero ∙ is; refused = λ some. absurd (some (sym is ∙ zero)); sound = λ _. has.sound; content = λ _. has.content }
 
 not_zero : (n : ℕ) → 1 ≤ n → n ≡ 0 → ⊥
 not_zero n some zero = omega arith

@@ -1,13 +1,18 @@
 -- What the inner functions of the crate promise one another.
-use Rattle.std.specs.Prelude.{◌≡◌, ℕ, zero, suc, ◌+◌, ◌≤◌, ◌<◌, List, length, get_or, set}
+use Rattle.std.specs.Prelude.{◌≡◌, Result, Ok, Err, ℕ, zero, suc, ◌+◌, ◌≤◌, ◌<◌, List, length, get_or, set}
 use Rattle.basics.specs.Limits.{places, largest_id, key_span}
+use Rattle.basics.specs.Refusals.{Refusal}
 use Rattle.places.specs.Order.{Entry, Before, triple}
 use Rattle.places.specs.Entries.{put, Filed, InBounds}
-use Rattle.queue.specs.Calls.{moved, HasEntries}
+use Rattle.queue.specs.Calls.{moved, HasEntries, IsChange, refused_find}
 use Rattle.queue.specs.Layout.{id_at, key_at, release_at, prev_at, entry_at, Holds, IsNode, bucket_of_key, bucket_of, entries, Sound, IsPlacedAt}
 use Rattle.queue.specs.Layout.Ranks.{rank_at, low, high}
 use Rattle.queue.specs.declared.Queue.{Queue}
 use Rattle.queue.specs.declared.Placed.{Placed}
+use Rattle.queue.specs.declared.Found.{Found}
+use Rattle.places.specs.declared.Entry as code
+use Rattle.basics.specs.declared.refusals.Refusal as reason
+use Rattle.basics.specs.Answers.{number_of}
 
 -- The arrays are as long as their types say.
 pub record HasShape (q : Queue) : Type 0 where
@@ -16,6 +21,19 @@ pub record HasShape (q : Queue) : Type 0 where
   pub releases : length q.releases ≡ places
   pub next : length q.next ≡ 544
   pub prev : length q.prev ≡ 544
+
+-- These are a queue's ids, keys and releases.
+abbrev pub ArePlacesOf : Queue → (ids keys releases : List ℕ) → Type 0
+ArePlacesOf q ids keys releases = (ids ≡ q.ids) × (keys ≡ q.keys) × (releases ≡ q.releases)
+
+-- What a search answers from what it found or why it found nothing.
+abbrev pub found_of : Result code.Entry reason.Refusal → Found
+found_of (Ok e) = record { answer = 0; key = e.key; release = e.release; id = e.id }
+found_of (Err refusal) = refused_find (number_of refusal)
+
+-- A change of q that was tried, with its answer and the queue after it.
+abbrev pub IsTried : List Refusal → Queue → List Entry → ℕ → Queue → Type 0
+IsTried refusals q es answer r = IsChange refusals q es (record { answer = answer; queue = r })
 
 -- x is a place, and n and what is linked before it are below 544, as nodes are.
 abbrev pub CanLink : (prev : List ℕ) → ℕ → ℕ → Type 0
@@ -107,13 +125,11 @@ pub record CanMove (q : Queue) (id amount : ℕ) : Type 0 where
 
 -- The same for the id at a place that holds one.
 pub record CanMoveAt (q : Queue) (x amount : ℕ) : Type 0 where
-  pub shape : HasShape q
   pub holds : Holds q x
   pub can : CanMove q (id_at q x) amount
 
 -- The amount is added to the key and the release of the id at place x, and every id stays at its place.
 pub record IsMovedAt (q : Queue) (x amount : ℕ) (r : Queue) : Type 0 where
-  pub shape : HasShape r
   pub has_entries : HasEntries r (moved (id_at q x) amount (entries q))
   pub places : r.ids ≡ q.ids
 
@@ -137,12 +153,15 @@ pub record CanMoveAll (q : Queue) (placed : Placed) (amounts : List ℕ) (n : �
 abbrev pub SearchFrom : Queue → ℕ → Entry → Type 0
 SearchFrom q from point = (i : ℕ) → Holds q i → Before point (entry_at q i) → (from ≤ key_at q i) × (key_at q i ≤ from + key_span)
 
--- x is the place of the first entry after a point, or 64 where none is after it.
+-- x is the place of the first entry after a point.
 pub record IsFirstAfter (q : Queue) (point : Entry) (x : ℕ) : Type 0 where
-  pub within : x ≤ places
-  pub found : x < places → Holds q x × Before point (entry_at q x)
-  pub first : x < places → (i : ℕ) → Holds q i → Before point (entry_at q i) → Before (entry_at q i) (entry_at q x) → ⊥
-  pub none : x ≡ places → (i : ℕ) → Holds q i → Before point (entry_at q i) → ⊥
+  pub holds : Holds q x
+  pub after : Before point (entry_at q x)
+  pub first : (i : ℕ) → Holds q i → Before point (entry_at q i) → Before (entry_at q i) (entry_at q x) → ⊥
+
+-- No entry is after a point.
+abbrev pub IsNoneAfter : Queue → Entry → Type 0
+IsNoneAfter q point = (i : ℕ) → Holds q i → Before point (entry_at q i) → ⊥
 
 -- A node in the bucket of a key that some entry has.
 pub record StandsAt (q : Queue) (key n : ℕ) : Type 0 where
@@ -153,10 +172,6 @@ pub record StandsAt (q : Queue) (key n : ℕ) : Type 0 where
 -- What a node stands for: an entry, or something before all entries of the bucket.
 abbrev pub point_at : Queue → ℕ → ℕ → Entry
 point_at q key n = record { key = key; release = low (release_at q) n; id = low (id_at q) n }
-
--- x is the place of the first entry after a node, in every sound queue with these keys and links.
-abbrev pub IsFollowing : (keys next : List ℕ) → ℕ → ℕ → ℕ → Type 0
-IsFollowing keys next key n x = (q : Queue) → q.keys ≡ keys → q.next ≡ next → Sound q → StandsAt q key n → IsFirstAfter q (point_at q key n) x
 
 -- The first n of some ids are those of the queue's first n entries, in order, and each is at its place.
 pub record IsInOrder (q : Queue) (n : ℕ) (r : Placed) : Type 0 where

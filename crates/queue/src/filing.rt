@@ -4,23 +4,27 @@ ghost use Rattle.places.specs.Entries.{FilesJust};
 ghost use Rattle.places.specs.Filing.{CanFile};
 ghost use Rattle.queue.specs.Layout.{entries, Sound};
 
-use super::Queue;
-use super::soundness::all_linked;
-use places::places_file_in_range;
+use crate::Queue;
+use places::Rows;
 
-// Whether a queue is sound and files just the first `count` rows. They are within the bounds of a queue, so the links alone are left to test.
-pub fn is_sound_filing_in_range(
-    q: Queue,
-    ids: [u32; 64],
-    keys: [u32; 64],
-    releases: [u32; 64],
-    count: usize,
-) -> bool
-    requires { CanFile ids keys releases count }
-    ensures { Decides result (Sound q × FilesJust ids keys releases count (entries q)) }
-{
-    if !places_file_in_range(&q.ids, &q.keys, &q.releases, &ids, &keys, &releases, count) {
-        return false;
+impl Queue {
+    // Whether a queue is sound and files just the first `count` rows. They are within the bounds of a queue, so the links alone are left to test.
+    pub fn is_sound_filing_in_range(
+        &self,
+        ids: &[u32; 64],
+        dues: &[u32; 64],
+        releases: &[u32; 64],
+        count: usize,
+    ) -> bool
+        requires { CanFile ids.now dues.now releases.now count }
+        ensures { Decides result (Sound self.now × FilesJust ids.now dues.now releases.now count (entries self.now)) }
+    {
+        let rows = Rows {
+            ids,
+            keys: dues,
+            releases,
+            count,
+        };
+        self.places().file_in_range(rows) && self.all_linked()
     }
-    all_linked(&q.ids, &q.keys, &q.releases, &q.next, &q.prev)
 }

@@ -1,23 +1,22 @@
 // The deadline queue: ids filed under keys, each with a release, in 480 circular buckets by key modulo 480. A bucket is a doubly linked list
 // ordered by release, then id.
-// Every call here tests the queue it is handed. A layer that knows its queue to be sound calls the forms whose names end in _sound.
+// Every call here tests the queue it is handed. A layer that knows its queue to be sound calls the methods whose names end in _sound.
 #![tactic(auto)]
 
-ghost use Rattle.std.specs.Prelude.{◌≡◌};
+ghost use Rattle.std.specs.Prelude.{◌≡◌, ◌<◌};
+ghost use Rattle.basics.specs.Answers.{answer};
+ghost use Rattle.basics.specs.Decides.{Decides};
+ghost use Rattle.basics.specs.Limits.{places};
 ghost use Rattle.basics.specs.Refusals.{answer_of};
 ghost use Rattle.places.specs.Order.{triple};
 ghost use Rattle.places.specs.Entries.{put, without};
-ghost use Rattle.queue.specs.Layout.{entries, empty_queue};
+ghost use Rattle.places.specs.Lent.{as_entry};
+ghost use Rattle.queue.specs.Layout.{entry_at, entries, empty_queue, Sound};
 ghost use Rattle.queue.specs.Calls.{insert_refusals, delete_refusals, move_refusals, moved, IsChange, least_of, next_of};
+ghost use Rattle.queue.specs.Linking.{ArePlacesOf, IsTried, found_of};
 
-use basics::{LARGEST_ID, PLACES, is_one_to};
-pub use changes::{delete_sound, insert_sound, move_sound};
-pub use filing::is_sound_filing_in_range;
-pub use moves::move_all_sound;
-pub use order::in_order_sound;
-use places::{key_fits, place_holding, place_of, sum};
-pub use search::{least_sound, next_sound};
-pub use soundness::is_sound;
+use basics::{LARGEST_ID, PLACES, Refusal, answer, is_one_to};
+use places::{Entry, Places, place_holding, place_of};
 
 mod changes;
 mod filing;
@@ -39,6 +38,7 @@ pub struct Queue {
 }
 
 // What a change answers, and the queue after it.
+// The answer is a number beside it, since a refused change hands its queue back too (Annex 8.9; `IsChange`).
 #[derive(Clone, Copy)]
 pub struct Changed {
     pub answer: u32,
@@ -46,12 +46,34 @@ pub struct Changed {
 }
 
 // What a search answers: an entry, or zeros.
+// The answer is a number beside them, since a refused search gives zeros too (Annex 8.15; `least_of`, `next_of`).
 #[derive(Clone, Copy)]
 pub struct Found {
     pub answer: u32,
     pub key: u32,
     pub release: u32,
     pub id: u32,
+}
+
+impl From<Result<Entry, Refusal>> for Found {
+    ghost from_gives = { λ outcome found. found ≡ found_of outcome };
+
+    fn from(outcome: Result<Entry, Refusal>) -> Found {
+        match outcome {
+            Ok(entry) => Found {
+                answer: 0,
+                key: entry.key,
+                release: entry.release,
+                id: entry.id,
+            },
+            Err(refusal) => Found {
+                answer: u32::from(refusal),
+                key: 0,
+                release: 0,
+                id: 0,
+            },
+        }
+    }
 }
 
 // Entries of a queue, by their ids, and beside each the place at which the queue has it. What a place is stays inside the queue.
@@ -66,10 +88,8 @@ pub fn empty() -> Queue
     ensures { result ≡ empty_queue }
 {
     let mut links = [0u16; 544];
-    let mut x: usize = PLACES;
-    while x < 544 {
+    for x in PLACES..544 {
         links[x] = x as u16;
-        x += 1;
     }
     Queue {
         ids: [0u16; 64],
@@ -80,125 +100,155 @@ pub fn empty() -> Queue
     }
 }
 
-// The first refusal of insert that applies, or 0.
-fn insert_refusal(q: Queue, id: u32, key: u32, release: u32) -> u32
-    ensures { result ≡ answer_of (insert_refusals q id key release) }
+// Whether a queue is sound, on any value whatever.
+pub fn is_sound(q: Queue) -> bool
+    ensures { Decides result (Sound q) }
 {
-    if !is_sound(q) {
-        return 5;
+    q.is_sound()
+}
+
+impl Queue {
+    // The entries at the places, without their links.
+    fn places(&self) -> Places<'_>
+        ensures { ArePlacesOf self.now result.ids.now result.keys.now result.releases.now }
+    {
+        Places {
+            ids: &self.ids,
+            keys: &self.keys,
+            releases: &self.releases,
+        }
     }
-    if !is_one_to(id, LARGEST_ID) {
-        return 6;
+
+    // What stands at place x, an entry unless the place is free.
+    fn entry_at(&self, x: usize) -> Entry
+        requires { x < places }
+        ensures { as_entry result ≡ entry_at self.now x }
+    {
+        self.places().entry_at(x)
     }
-    if place_of(&q.ids, 0) == PLACES {
-        return 21;
+
+    // The first refusal of insert that applies, if any.
+    fn may_insert(&self, id: u32, key: u32, release: u32) -> Result<(), Refusal>
+        ensures { answer result ≡ answer_of (insert_refusals self.now id key release) }
+    {
+        if !self.is_sound() {
+            return Err(Refusal::NotSound);
+        }
+        if !is_one_to(id, LARGEST_ID) {
+            return Err(Refusal::BadId);
+        }
+        if place_of(&self.ids, 0).is_none() {
+            return Err(Refusal::QueueFull);
+        }
+        if place_holding(&self.ids, id).is_some() {
+            return Err(Refusal::Filed);
+        }
+        if key < release || !self.places().key_fits(None, u64::from(key)) {
+            return Err(Refusal::OutOfBounds);
+        }
+        Ok(())
     }
-    if place_holding(&q.ids, id) != PLACES {
-        return 22;
+
+    // The first refusal of delete that applies, if any.
+    fn may_delete(&self, id: u32) -> Result<(), Refusal>
+        ensures { answer result ≡ answer_of (delete_refusals self.now id) }
+    {
+        if !self.is_sound() {
+            return Err(Refusal::NotSound);
+        }
+        if place_holding(&self.ids, id).is_none() {
+            return Err(Refusal::NotFiled);
+        }
+        Ok(())
     }
-    if key < release {
-        return 23;
+
+    // The first refusal of move that applies, if any. The sum of key and amount is taken in 64 bits: it may pass 32. A release stays as far below
+    // its key as it was.
+    fn may_move(&self, id: u32, amount: u32) -> Result<(), Refusal>
+        ensures { answer result ≡ answer_of (move_refusals self.now id amount) }
+    {
+        if !self.is_sound() {
+            return Err(Refusal::NotSound);
+        }
+        let Some(x) = place_holding(&self.ids, id) else {
+            return Err(Refusal::NotFiled);
+        };
+        let key = u64::from(self.keys[x]) + u64::from(amount);
+        if !self.places().key_fits(Some(x), key) {
+            return Err(Refusal::OutOfBounds);
+        }
+        Ok(())
     }
-    if !key_fits(&q.ids, &q.keys, PLACES, key as u64) {
-        return 23;
+
+    // A change in place; refused, it leaves the queue as it was.
+    fn insert(&mut self, id: u32, key: u32, release: u32) -> Result<(), Refusal>
+        ensures { IsTried (insert_refusals self.old id key release) self.old (put (triple key release id) (entries self.old)) (answer result) self.new }
+    {
+        self.may_insert(id, key, release)?;
+        self.insert_sound(id, key, release);
+        Ok(())
     }
-    0
+
+    fn delete(&mut self, id: u32) -> Result<(), Refusal>
+        ensures { IsTried (delete_refusals self.old id) self.old (without id (entries self.old)) (answer result) self.new }
+    {
+        self.may_delete(id)?;
+        self.delete_sound(id);
+        Ok(())
+    }
+
+    fn move_by(&mut self, id: u32, amount: u32) -> Result<(), Refusal>
+        ensures { IsTried (move_refusals self.old id amount) self.old (moved id amount (entries self.old)) (answer result) self.new }
+    {
+        self.may_move(id, amount)?;
+        self.move_sound(id, amount);
+        Ok(())
+    }
+
+    fn next(&self, point: Entry) -> Result<Entry, Refusal>
+        ensures { found_of result ≡ next_of self.now point.key point.release point.id }
+    {
+        if !self.is_sound() {
+            return Err(Refusal::NotSound);
+        }
+        self.next_sound(point)
+    }
 }
 
 // Annex 8.10: files an id under a key, with a release.
-pub fn insert(q: Queue, id: u32, key: u32, release: u32) -> Changed
+pub fn insert(mut q: Queue, id: u32, key: u32, release: u32) -> Changed
     ensures { IsChange (insert_refusals q id key release) q (put (triple key release id) (entries q)) result }
 {
-    let answer = insert_refusal(q, id, key, release);
-    if answer != 0 {
-        return Changed { answer, queue: q };
-    }
-    let queue = insert_sound(q, id, key, release);
-    Changed { answer: 0, queue }
-}
-
-// The first refusal of delete that applies, or 0.
-fn delete_refusal(q: Queue, id: u32) -> u32
-    ensures { result ≡ answer_of (delete_refusals q id) }
-{
-    if !is_sound(q) {
-        return 5;
-    }
-    if place_holding(&q.ids, id) == PLACES {
-        return 24;
-    }
-    0
+    let answer = answer(q.insert(id, key, release));
+    Changed { answer, queue: q }
 }
 
 // Annex 8.11: takes an id out.
-pub fn delete(q: Queue, id: u32) -> Changed
+pub fn delete(mut q: Queue, id: u32) -> Changed
     ensures { IsChange (delete_refusals q id) q (without id (entries q)) result }
 {
-    let answer = delete_refusal(q, id);
-    if answer != 0 {
-        return Changed { answer, queue: q };
-    }
-    let queue = delete_sound(q, id);
-    Changed { answer: 0, queue }
-}
-
-// The first refusal of move that applies, or 0. The sum of key and amount is taken in 64 bits: it may pass 32. A release stays as far below its
-// key as it was.
-fn move_refusal(q: Queue, id: u32, amount: u32) -> u32
-    ensures { result ≡ answer_of (move_refusals q id amount) }
-{
-    if !is_sound(q) {
-        return 5;
-    }
-    let x = place_holding(&q.ids, id);
-    if x == PLACES {
-        return 24;
-    }
-    let key = q.keys[x];
-    if !key_fits(&q.ids, &q.keys, x, sum(key, amount)) {
-        return 23;
-    }
-    0
+    let answer = answer(q.delete(id));
+    Changed { answer, queue: q }
 }
 
 // Annex 8.12: adds an amount to the key and the release of an id.
-pub fn move_by(q: Queue, id: u32, amount: u32) -> Changed
+pub fn move_by(mut q: Queue, id: u32, amount: u32) -> Changed
     ensures { IsChange (move_refusals q id amount) q (moved id amount (entries q)) result }
 {
-    let answer = move_refusal(q, id, amount);
-    if answer != 0 {
-        return Changed { answer, queue: q };
-    }
-    let queue = move_sound(q, id, amount);
-    Changed { answer: 0, queue }
+    let answer = answer(q.move_by(id, amount));
+    Changed { answer, queue: q }
 }
 
-// Annex 8.13: the first entry of all.
+// Annex 8.13: the first entry of all. Ids are 1 or more, so every entry comes after zeros.
 pub fn least(q: Queue) -> Found
     ensures { result ≡ least_of q }
 {
-    if !is_sound(q) {
-        return Found {
-            answer: 5,
-            key: 0,
-            release: 0,
-            id: 0,
-        };
-    }
-    least_sound(q)
+    next(q, 0, 0, 0)
 }
 
 // Annex 8.14: the first entry after a key, a release and an id, filed or not.
 pub fn next(q: Queue, key: u32, release: u32, id: u32) -> Found
     ensures { result ≡ next_of q key release id }
 {
-    if !is_sound(q) {
-        return Found {
-            answer: 5,
-            key: 0,
-            release: 0,
-            id: 0,
-        };
-    }
-    next_sound(q, key, release, id)
+    Found::from(q.next(Entry { key, release, id }))
 }

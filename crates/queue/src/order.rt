@@ -1,55 +1,52 @@
 // All entries in order, in one walk over the buckets.
-ghost use Rattle.std.specs.Prelude.{◌≤◌, ◌<◌, length};
+ghost use Rattle.std.specs.Prelude.{◌≤◌, length, MatchOption};
 ghost use Rattle.queue.specs.Layout.{entries, Sound};
-ghost use Rattle.queue.specs.Linking.{IsFollowing, IsInOrder};
+ghost use Rattle.queue.specs.Linking.{StandsAt, point_at, IsFirstAfter, IsNoneAfter, IsInOrder};
 
-use super::links::{bucket_of_key, head_of, node_at};
-use super::search::bucket_after;
-use super::{Placed, Queue};
-use basics::{LAST_BUCKET, PLACES};
-use places::least_key;
+use crate::links::{bucket_of_key, head_of};
+use crate::search::bucket_after;
+use crate::{Placed, Queue};
+use basics::{BUCKET_COUNT, PLACES};
 
-// The place of the entry that follows a node in the bucket of a key, along its list or in one of the other buckets; 64 if none follows.
-fn following_in_range<'a>(keys: &'a [u32; 64], next: &'a [u16; 544], key: u32, n: usize) -> usize
-    requires { n < 544 }
-    ensures { IsFollowing keys.now next.now key n result }
-{
-    let on = node_at(next, n);
-    if on < PLACES {
-        return on;
-    }
-    let mut bucket = bucket_after(bucket_of_key(key));
-    let mut left: usize = LAST_BUCKET;
-    while 0 < left {
-        let first = node_at(next, PLACES + bucket);
-        if first < PLACES {
-            if key < keys[first] {
-                return first;
-            }
-            return PLACES;
+impl Queue {
+    // The place of the entry that follows a node in the bucket of a key, along its list or in one of the other buckets.
+    fn following_sound(&self, key: u32, n: usize) -> Option<usize>
+        requires { Sound self.now × StandsAt self.now key n }
+        ensures { MatchOption result (IsNoneAfter self.now (point_at self.now key n)) (IsFirstAfter self.now (point_at self.now key n)) }
+    {
+        let on = self.next_of(n);
+        if on < PLACES {
+            return Some(on);
         }
-        bucket = bucket_after(bucket);
-        left -= 1;
+        let mut bucket = bucket_after(bucket_of_key(key));
+        for _turn in 1..BUCKET_COUNT {
+            let first = self.next_of(PLACES + bucket);
+            if first < PLACES {
+                if key < self.keys[first] {
+                    return Some(first);
+                }
+                return None;
+            }
+            bucket = bucket_after(bucket);
+        }
+        None
     }
-    PLACES
-}
 
-// The first `count` entries, in order. The walk begins at the head of the least key's bucket.
-pub fn in_order_sound(q: Queue, count: usize) -> Placed
-    requires { Sound q × (count ≤ length (entries q)) }
-    ensures { IsInOrder q count result }
-{
-    let mut ids = [0u16; 64];
-    let mut places = [0usize; 64];
-    let mut key = least_key(&q.ids, &q.keys);
-    let mut n = head_of(key);
-    let mut k: usize = 0;
-    while k < count {
-        n = following_in_range(&q.keys, &q.next, key, n);
-        ids[k] = q.ids[n];
-        places[k] = n;
-        key = q.keys[n];
-        k += 1;
+    // The first `count` entries, in order. The walk begins at the head of the least key's bucket.
+    pub fn in_order_sound(&self, count: usize) -> Placed
+        requires { Sound self.now × (count ≤ length (entries self.now)) }
+        ensures { IsInOrder self.now count result }
+    {
+        let mut ids = [0u16; 64];
+        let mut places = [0usize; 64];
+        let mut key = self.places().least_key();
+        let mut n = head_of(key);
+        for k in 0..count {
+            n = self.following_sound(key, n).unwrap();
+            ids[k] = self.ids[n];
+            places[k] = n;
+            key = self.keys[n];
+        }
+        Placed { ids, places }
     }
-    Placed { ids, places }
 }

@@ -9,35 +9,24 @@ pub struct Draws {
     pub e: u32,
 }
 
-const MOODS: [u32; 8] = [0, 0, 1, 1, 2, 3, 3, 3];
-
-fn after(draw: u32) -> u32 {
-    (draw as u64 * 16807 % 2147483647) as u32
+fn next(draw: u32) -> u32 {
+    (u64::from(draw) * 16807 % 2147483647) as u32
 }
 
-pub fn six_after(draw: u32) -> Draws {
-    let k = after(draw);
-    let a = after(k);
-    let b = after(a);
-    let c = after(b);
-    let d = after(c);
-    let e = after(d);
-    Draws { k, a, b, c, d, e }
-}
-
-// The mood that goes with an opening.
-pub fn mood(e: u32) -> u32 {
-    MOODS[(e / 8 % 8) as usize]
+impl Draws {
+    // The six behind a draw.
+    pub fn after(draw: u32) -> Draws {
+        let k = next(draw);
+        let a = next(k);
+        let b = next(a);
+        let c = next(b);
+        let d = next(c);
+        let e = next(d);
+        Draws { k, a, b, c, d, e }
+    }
 }
 
 // x modulo n; 0 with n = 0.
 pub fn modulo(x: u32, n: u32) -> u32 {
-    if n == 0 {
-        return 0;
-    }
-    x % n
-}
-
-pub fn lesser(x: u32, y: u32) -> u32 {
-    if x < y { x } else { y }
+    x.checked_rem(n).unwrap_or(0)
 }

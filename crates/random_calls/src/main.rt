@@ -3,68 +3,46 @@
 // `oracle calls SEED N` prints the same; what is to be printed comes from there.
 #![tactic(auto)]
 
+use calls::Host;
 use calls::line::line_of;
 use draws::Draws;
-use planner::Planner;
 use seen::Seen;
+use std::io::Result;
 
-mod bytes;
 mod draws;
+mod mood;
 mod next;
 mod own;
+mod packet;
 mod plan;
 mod seen;
 
-// What a step leaves.
-#[derive(Clone, Copy)]
-struct Made {
-    planner: Planner,
-    seen: Seen,
+fn step(host: &mut Host, seen: &mut Seen, d: Draws) -> Result<()> {
+    let Some(call) = next::call(seen, d) else {
+        seen.held = false;
+        let plan = plan::make(host.planner, seen.mood, d);
+        return host.check(plan.as_slice());
+    };
+    let answered = host.make(call)?;
+    seen.note(call, answered, d);
+    Ok(())
 }
 
-fn check(p: Planner, mood: u32, d: Draws) {
-    let mut bytes = [0u8; 1100];
-    let length = plan::make(p, mood, d, &mut bytes);
-    calls::check(p, text::front(&bytes, length as usize));
-}
-
-fn step(p: Planner, seen: Seen, d: Draws) -> Made {
-    if next::is_check(seen, d) {
-        check(p, seen.mood, d);
-        return Made {
-            planner: p,
-            seen: seen::after_check(seen),
-        };
-    }
-    let call = next::call(seen, d);
-    let answered = calls::make(p, call);
-    let planner = answered.planner;
-    Made {
-        planner,
-        seen: seen::after(seen, d, call, answered.answer, answered.start),
-    }
-}
-
-fn make_list(seed: u32, wanted: u32) {
-    let closed = planner::open(0, 0, 0, 0, 0);
-    let mut planner = closed.planner;
-    let mut seen = seen::nothing();
+fn run(rt: &HostRuntime) -> Result<()> {
+    let mut buffer = [0; 4096];
+    let [_, seed, wanted, ..] = line_of(text::input(&mut buffer)).numbers;
+    let mut host = Host::new(rt);
+    let mut seen = Seen::default();
     let mut draw = seed;
-    let mut left = wanted;
-    while 0 < left {
-        let d = draws::six_after(draw);
+    for _ in 0..wanted {
+        let d = Draws::after(draw);
         draw = d.e;
-        let made = step(planner, seen, d);
-        planner = made.planner;
-        seen = made.seen;
-        left -= 1;
+        step(&mut host, &mut seen, d)?;
     }
+    Ok(())
 }
 
-fn main() {
-    let mut text = io::buffer();
-    let n = io::read_full(0, &mut text);
-    let line = line_of(&text[..n]);
-    let x = line.numbers;
-    make_list(x[1], x[2]);
+// A write that fails ends the run, and changes no exit status.
+fn main(rt: HostRuntime) {
+    let _ = run(&rt);
 }

@@ -1,63 +1,43 @@
-// A planner's own rounds, held on a copy of it and written as packets end to end.
+// A planner's own rounds, held on a copy of it, and each written as a packet.
+use super::packet::Packet;
+use arrayvec::ArrayVec;
 use packets::packet_write;
 use planner::{Planner, filled};
-use std::num::wrapping_add_u32;
 
-// The copy after the rounds; how many were held, and how many bytes their packets have.
-#[derive(Clone, Copy)]
+// The copy after the rounds, and their packets, with room for one more.
+#[derive(Drop)]
 pub struct Own {
     pub planner: Planner,
-    pub count: u32,
-    pub length: u32,
+    pub packets: ArrayVec<Packet, 9>,
 }
 
-// The length with a packet behind; as before, if it is refused.
-fn length_with<'a>(
-    plan: &'a mut [u8],
-    length: u32,
-    start: u32,
-    slots: u32,
-    numbers: &'a [u16],
-) -> u32 {
-    let at = length as usize;
-    if plan.len() < at {
-        return length;
+// None where the packet is refused.
+fn packet_of(start: u32, slots: u32, numbers: &[u16]) -> Option<Packet> {
+    let mut bytes = [0; 134];
+    if packet_write(start, slots, numbers, &mut bytes) != 0 {
+        return None;
     }
-    let answer = packet_write(start, slots, numbers, &mut plan[at..]);
-    if answer != 0 {
-        return length;
-    }
-    super::bytes::behind(plan, length)
+    let written = bytes.get(..6 + 2 * numbers.len())?;
+    Packet::try_from(written).ok()
 }
 
-// A round more. Where it is refused the planner stays as it is, and so all others are refused.
-fn with_round(own: Own, plan: &mut [u8]) -> Own {
-    let before = own.planner;
-    let setting = before.setting;
-    let mut buffer = [0u16; 64];
-    let held = planner::round(before, &mut buffer);
-    if held.answer != 0 {
-        return own;
-    }
-    let planner = held.planner;
-    let numbers = filled(&buffer, held.n);
-    Own {
-        planner,
-        count: wrapping_add_u32(own.count, 1),
-        length: length_with(plan, own.length, held.start, setting.slots, numbers),
-    }
-}
-
-pub fn rounds(p: Planner, wanted: u32, plan: &mut [u8]) -> Own {
+// Where a round is refused the planner stays as it is, and so all others are refused.
+pub fn rounds(p: Planner, wanted: u32) -> Own {
     let mut own = Own {
         planner: p,
-        count: 0,
-        length: 0,
+        packets: ArrayVec::new(),
     };
-    let mut left = wanted;
-    while 0 < left {
-        own = with_round(own, plan);
-        left -= 1;
+    for _ in 0..wanted {
+        let mut buffer = [0; 64];
+        let held = planner::round(own.planner, &mut buffer);
+        if held.answer != 0 {
+            break;
+        }
+        own.planner = held.planner;
+        let numbers = filled(&buffer, held.n);
+        if let Some(packet) = packet_of(held.start, own.planner.setting.slots, numbers) {
+            let _ = own.packets.try_push(packet);
+        }
     }
     own
 }

@@ -1,126 +1,83 @@
-// A plan to be checked: the planner's own rounds with one edit, or none. Each edit gives the length of the plan after it.
-use super::bytes::{
-    behind, byte, move_down, move_up, number, place_of, put, put_number, put_start, start_of, turn,
-};
-use super::draws::{Draws, lesser, modulo};
-use super::own::Own;
-use super::{next, own};
+// A plan to be checked: the planner's own rounds with one edit, or none.
+use super::draws::{Draws, modulo};
+use super::mood::Mood;
+use super::own::{self, Own};
+use super::packet::{self, Packet};
+use arrayvec::ArrayVec;
 use planner::Planner;
-use std::num::{wrapping_add_u32, wrapping_sub_u32};
+
+// In fixed memory, which cannot run out: there is room for eight rounds and what an edit puts in.
+pub type Plan = ArrayVec<u8, 1100>;
 
 const ROUNDS: [u32; 16] = [0, 1, 2, 2, 3, 3, 4, 4, 5, 5, 6, 6, 7, 7, 8, 8];
 
-const DIGITS: [u32; 8] = [1, 2, 4, 8, 16, 32, 64, 128];
-
-// The plan's length.
-pub fn make(p: Planner, mood: u32, d: Draws, plan: &mut [u8]) -> u32 {
-    let own = own::rounds(p, ROUNDS[(d.a % 16) as usize], plan);
-    let row = row(own.count, d.b % 16);
-    let at = place_of(plan, modulo(d.c, own.count));
+pub fn make(p: Planner, mood: Mood, d: Draws) -> Plan {
+    let mut own = own::rounds(p, ROUNDS[(d.a % 16) as usize]);
+    let row = match d.b % 16 {
+        1.. if own.packets.is_empty() => 15,
+        row => row,
+    };
+    edit_packets(&mut own, row, mood, d);
+    let mut plan = Plan::new();
+    for packet in own.packets.as_slice() {
+        let _ = plan.try_extend_from_slice(packet.as_slice());
+    }
     match row {
-        0 => own.length,
-        1..=4 => with_start(plan, own.length, at, row),
-        5..=11 => with_numbers(plan, own.length, at, row, mood, d),
-        12 => wrapping_sub_u32(own.length, lesser(own.length, cut(d.e))),
-        13 => with_digit(plan, own.length, d),
-        14 => exchanged(plan, own.length, at),
-        _ => with_packet(plan, own, d.e),
+        12 => plan.truncate(plan.len().saturating_sub(cut(d.e))),
+        13 => turn_digit(&mut plan, d),
+        _ => {}
     }
+    plan
 }
 
-fn row(count: u32, row: u32) -> u32 {
-    if count == 0 {
-        if row != 0 {
-            return 15;
-        }
-    }
-    row
-}
-
-fn with_start(plan: &mut [u8], length: u32, at: u32, row: u32) -> u32 {
-    let start = start_of(plan, at);
-    if row < 3 {
-        put_start(plan, at, wrapping_add_u32(start, 1));
-        return length;
-    }
-    put_start(plan, at, wrapping_sub_u32(start, 1));
-    length
-}
-
-// The edits that need no number in the packet; the others are below.
-fn with_numbers(plan: &mut [u8], length: u32, at: u32, row: u32, mood: u32, d: Draws) -> u32 {
-    let first = wrapping_add_u32(at, 6);
+// The edits of packets; the others are of the plan's bytes.
+fn edit_packets(own: &mut Own, row: u32, mood: Mood, d: Draws) {
+    let count = own.packets.len();
+    let chosen = (d.c as usize).checked_rem(count).unwrap_or(0);
     match row {
-        8..=9 => put_in(plan, length, at, first, next::id(mood, d.e)),
-        11 => put_in(plan, length, at, behind(plan, at), next::number(d.e)),
-        _ => {
-            let n = byte(plan, wrapping_add_u32(at, 5)) % 256;
-            if n == 0 {
-                return length;
+        1..=11 => {
+            if let Some(packet) = own.packets.get_mut(chosen) {
+                packet::edit(packet, row, mood, d);
             }
-            let place = wrapping_add_u32(first, 2 * (d.d % n % 256));
-            with_number(plan, length, at, place, row, next::id(mood, d.e))
+        }
+        14 => exchange(own.packets.as_mut_slice(), chosen),
+        15 => put_behind(own, d.e),
+        _ => {}
+    }
+}
+
+// A packet and the one behind it change places.
+fn exchange(packets: &mut [Packet], chosen: usize) {
+    if let Some(last) = packets.get_mut(chosen..) {
+        if 1 < last.len() {
+            last.swap(0, 1);
         }
     }
 }
 
-fn with_number(plan: &mut [u8], length: u32, at: u32, place: u32, row: u32, id: u32) -> u32 {
-    match row {
-        5..=6 => {
-            put_number(plan, place, id);
-            length
-        }
-        7 => put_in(plan, length, at, place, number(plan, place)),
-        _ => taken_out(plan, length, at, place),
+// A packet with no numbers.
+fn put_behind(own: &mut Own, draw: u32) {
+    let start = own.planner.last.wrapping_add(1 + draw % 8);
+    let [a, b, c, d] = start.to_be_bytes();
+    let slots = (own.planner.setting.slots % 256) as u8;
+    let header = [a, b, c, d, slots, 0];
+    if let Ok(packet) = Packet::try_from(&header[..]) {
+        let _ = own.packets.try_push(packet);
     }
-}
-
-fn put_in(plan: &mut [u8], length: u32, at: u32, place: u32, x: u32) -> u32 {
-    let count = wrapping_add_u32(at, 5);
-    put(plan, count, wrapping_add_u32(byte(plan, count), 1));
-    move_up(plan, place, length);
-    put_number(plan, place, x);
-    wrapping_add_u32(length, 2)
-}
-
-fn taken_out(plan: &mut [u8], length: u32, at: u32, place: u32) -> u32 {
-    let count = wrapping_add_u32(at, 5);
-    put(plan, count, wrapping_sub_u32(byte(plan, count), 1));
-    move_down(plan, place, length, 2);
-    wrapping_sub_u32(length, 2)
 }
 
 // How many bytes are cut off.
-fn cut(draw: u32) -> u32 {
+fn cut(draw: u32) -> usize {
     match draw % 4 {
         0..=1 => 1,
-        _ => 1 + draw / 4 % 16,
+        _ => 1 + (draw / 4 % 16) as usize,
     }
 }
 
-fn with_digit(plan: &mut [u8], length: u32, d: Draws) -> u32 {
-    let place = modulo(d.d, length);
-    let digit = DIGITS[(d.e % 8) as usize];
-    put(plan, place, byte(plan, place) ^ digit);
-    length
-}
-
-// The packet at a place and the one behind it change places.
-fn exchanged(plan: &mut [u8], length: u32, at: u32) -> u32 {
-    let second = behind(plan, at);
-    if second < length {
-        let end = behind(plan, second);
-        turn(plan, at, end, wrapping_sub_u32(second, at));
+// A byte's binary digit becomes the other.
+fn turn_digit(plan: &mut Plan, d: Draws) {
+    let place = (d.d as usize).checked_rem(plan.len()).unwrap_or(0);
+    if let Some(byte) = plan.get_mut(place) {
+        *byte ^= 1 << (d.e % 8);
     }
-    length
-}
-
-fn with_packet(plan: &mut [u8], own: Own, draw: u32) -> u32 {
-    let planner = own.planner;
-    let setting = planner.setting;
-    let at = own.length;
-    put_start(plan, at, wrapping_add_u32(planner.last, 1 + draw % 8));
-    put(plan, wrapping_add_u32(at, 4), setting.slots);
-    put(plan, wrapping_add_u32(at, 5), 0);
-    wrapping_add_u32(at, 6)
 }

@@ -1,66 +1,41 @@
 // What was called and answered, by which the next call is chosen.
-use super::draws::{Draws, mood};
-use calls::Call;
+use super::draws::Draws;
+use super::mood::Mood;
+use calls::{Answered, Call};
 
 // B and F of the last opening, zeros if it was refused; L, that opening's T or the start of the last round held since; the mood, which is of
 // the last opening, refused or not; and whether the call before was a round that was held.
-#[derive(Clone, Copy)]
+#[derive(Clone, Copy, Default)]
 pub struct Seen {
     pub slots: u32,
     pub frame: u32,
     pub last: u32,
-    pub mood: u32,
+    pub mood: Mood,
     pub held: bool,
 }
 
-pub fn nothing() -> Seen {
-    closed(0)
-}
-
-fn closed(mood: u32) -> Seen {
-    Seen {
-        slots: 0,
-        frame: 0,
-        last: 0,
-        mood,
-        held: false,
-    }
-}
-
-fn changed(seen: Seen, last: u32, held: bool) -> Seen {
-    Seen {
-        slots: seen.slots,
-        frame: seen.frame,
-        last,
-        mood: seen.mood,
-        held,
-    }
-}
-
-pub fn after(seen: Seen, d: Draws, call: Call, answer: u32, start: u32) -> Seen {
-    match call {
-        Call::Open(slots, frame, _, last, _) => {
-            if answer != 0 {
-                return closed(mood(d.e));
-            }
-            Seen {
-                slots,
-                frame,
-                last,
-                mood: mood(d.e),
-                held: false,
-            }
+impl Seen {
+    // What a call answered that is no check.
+    pub fn note(&mut self, call: Call, answered: Answered, d: Draws) {
+        self.held = answered.held.is_some();
+        if let Some(start) = answered.held {
+            self.last = start;
         }
-        Call::Round(_) => {
-            if answer != 0 {
-                return changed(seen, seen.last, false);
-            }
-            changed(seen, start, true)
+        if let Call::Open(slots, frame, _, last, _) = call {
+            let mood = Mood::of_opening(d.e);
+            *self = match answered.answer {
+                0 => Seen {
+                    slots,
+                    frame,
+                    last,
+                    mood,
+                    held: false,
+                },
+                _ => Seen {
+                    mood,
+                    ..Seen::default()
+                },
+            };
         }
-        _ => changed(seen, seen.last, false),
     }
-}
-
-pub fn after_check(seen: Seen) -> Seen {
-    changed(seen, seen.last, false)
 }

@@ -1,11 +1,14 @@
 -- What the tests of a round promise.
-use Rattle.std.specs.Prelude.{◌≡◌, List, ◌++◌, ℕ, ◌+◌, ◌*◌, ◌≤◌, ◌<◌, length, get_or}
+use Rattle.std.specs.Prelude.{◌≡◌, List, ◌++◌, ℕ, ◌+◌, ◌*◌, ◌≤◌, ◌<◌, length, get_or, Option, MatchOption}
 use Rattle.packet_bytes.specs.Layout.{Values, bytes_of}
 
--- The length of the packet in front of bytes, by its byte 5; 0 where no packet stands there whole.
-pub record IsFrontLength (rest : List ℕ) (r : ℕ) : Type 0 where
-  pub cut_short : r ≡ 0 → (v : Values) (more : List ℕ) → rest ≡ bytes_of v ++ more → ⊥
-  pub whole : 1 ≤ r → (r ≡ 6 + 2 * get_or rest 5 0) × (r ≤ length rest)
+-- No packet stands whole in front of bytes.
+abbrev pub CutShort : List ℕ → Type 0
+CutShort rest = (v : Values) (more : List ℕ) → rest ≡ bytes_of v ++ more → ⊥
+
+-- The length of the packet in front of bytes, by its byte 5; none where no packet stands there whole.
+abbrev pub IsFrontLength : List ℕ → Option ℕ → Type 0
+IsFrontLength rest r = MatchOption r (CutShort rest) (λ n. (n ≡ 6 + 2 * get_or rest 5 0) × (n ≤ length rest))
 
 -- A start after the last one, and by the gap cap.
 abbrev pub StartFits : ℕ → ℕ → ℕ → Type 0

@@ -8,33 +8,32 @@ ghost use Rattle.messages.specs.Numbers.{stream_ids};
 ghost use Rattle.round_tests.specs.Tests.{IsFrontLength, StartFits, RidesBy, NoneBy};
 
 use basics::LARGEST_ID_16;
-use packet_bytes::wide;
 
-// The length of the packet in front, which its byte 5 gives; 0 if it is cut short.
-pub fn packet_length(rest: &[u8]) -> usize
+// The length of the packet in front, which its byte 5 gives; none if it is cut short.
+#[tactic(auto, using(crate::specs::Facts::Fronts::front_long))]
+pub fn packet_length(rest: &[u8]) -> Option<usize>
     ensures { IsFrontLength rest.now result }
 {
     if rest.len() < 6 {
-        return 0;
+        return None;
     }
-    let length = 6 + 2 * (wide(rest[5]) as usize);
+    let length = 6 + 2 * usize::from(rest[5]);
     if rest.len() < length {
-        return 0;
+        return None;
     }
-    length
+    Some(length)
 }
 
-// How many of the numbers are stream ids. Each is looked at: a loop that cannot be left counts many at once.
+// How many of the numbers are stream ids. Each is looked at: a loop that cannot be left counts many at once, and `filter` with `count` does not.
+#[tactic(auto, using(crate::specs::Facts::Numbers::all_counted))]
 pub fn stream_count(numbers: &[u16]) -> usize
     ensures { result ≡ length (stream_ids numbers.now) }
 {
-    let mut count: usize = 0;
-    let mut i: usize = 0;
-    while i < numbers.len() {
-        if numbers[i] <= LARGEST_ID_16 {
+    let mut count = 0;
+    for number in numbers {
+        if *number <= LARGEST_ID_16 {
             count += 1;
         }
-        i += 1;
     }
     count
 }
@@ -60,17 +59,16 @@ pub fn rides(due: u32, deadline: u32, start: u32) -> bool
 }
 
 // Whether none of the first due times is by the end of a round. Each is looked at: a loop that cannot be left compares many at once.
+// The due times come as they are kept: an array of 64 with a count beside it, since the libraries use no heap.
 pub fn none_by_in_range(dues: &[u32; 64], count: usize, end: u32) -> bool
     requires { count ≤ places }
     ensures { Decides result (NoneBy count dues.now end) }
 {
     let mut none = true;
-    let mut i: usize = 0;
-    while i < count {
-        if dues[i] <= end {
+    for due in &dues[..count] {
+        if *due <= end {
             none = false;
         }
-        i += 1;
     }
     none
 }

@@ -19,7 +19,8 @@ use Rattle.state.specs.Content.{Content, content, slots_of, frame_of, streams_in
 use Rattle.state.specs.Sound.{MailInRange, InRange, ContentSound, entry_of, Files, Sound}
 use Rattle.state.specs.declared.Setting.{Setting}
 use Rattle.state.specs.Open.{open_refusals}
-use Rattle.state.proofs.Facts.Open.{NumbersInRange, range_numbers, in_range_by_numbers, open_exact}
+use Rattle.state.proofs.Facts.Open.{range_numbers, in_range_by_numbers, open_exact}
+use Rattle.state.specs.Needs.{NumbersInRange}
 use Rattle.state.specs.declared.Planner.{Planner}
 use Rattle.rules.proofs.Facts.LazyStart.{lazy_unique}
 use Rattle.state.proofs.Facts.Sound.{sound_start}

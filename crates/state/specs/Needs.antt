@@ -1,9 +1,8 @@
 -- What the inner functions of the crate promise one another, and `sound_start` to the calls above.
-use Rattle.std.specs.Prelude.{◌≡◌, ℕ, ◌+◌, ◌≤◌}
+use Rattle.std.specs.Prelude.{Option, MatchOption, ℕ, ◌+◌, ◌≤◌}
 use mathlib.Core.List.{Mem}
 use Rattle.basics.specs.OneTo.{OneTo}
-use Rattle.basics.specs.Limits.{places, largest_id, key_span, largest_key, most_waiting}
-use Rattle.basics.specs.Refusals.{answer_of}
+use Rattle.basics.specs.Limits.{last_start, places, largest_id, key_span, largest_key, most_waiting}
 use Rattle.table.specs.Table.{records_of, due_of}
 use Rattle.table.specs.declared.Record.{Record}
 use Rattle.table.specs.Changes.{Ascending}
@@ -13,20 +12,28 @@ use Rattle.queue.specs.Interface
 use Rattle.queue.specs.declared.Queue.{Queue}
 use Rattle.messages.specs.Waiting.{waiting_of}
 use Rattle.state.specs.Content.{content}
-use Rattle.state.specs.Sound.{MailInRange, Files, Sound}
-use Rattle.state.specs.Open.{open_refusals}
+use Rattle.state.specs.Sound.{SettingInRange, MailInRange, Files, Sound}
 use Rattle.state.specs.Start.{IsStart}
 use Rattle.state.specs.declared.Planner.{Planner}
+use Rattle.state.specs.declared.Setting.{Setting}
 
--- The lazy start of a sound planner; 0 for a planner that is not sound.
-pub record IsSoundStart (p : Planner) (r : ℕ) : Type 0 where
-  pub unsound : r ≡ 0 → Sound p → ⊥
-  pub sound : 1 ≤ r → Sound p
-  pub start : 1 ≤ r → IsStart (content p) r
+-- A planner is sound, and s is its lazy start.
+pub record StartsAt (p : Planner) (s : ℕ) : Type 0 where
+  pub sound : Sound p
+  pub start : IsStart (content p) s
 
--- The numbers of a planner are those of some opening, and what waits is in range.
+-- The lazy start of a sound planner; none for a planner that is not sound.
+abbrev pub IsSoundStart : Planner → Option ℕ → Type 0
+IsSoundStart p r = MatchOption r (Sound p → ⊥) (StartsAt p)
+
+-- What is in range where open refuses nothing.
+pub record NumbersInRange (s : Setting) (t : ℕ) : Type 0 where
+  pub setting : SettingInRange s
+  pub last : t ≤ last_start
+
+-- The numbers of a planner are in range, and so is what waits.
 pub record HasNumbers (p : Planner) : Type 0 where
-  pub opened : answer_of (open_refusals p.setting p.last) ≡ 0
+  pub numbers : NumbersInRange p.setting p.last
   pub mail : MailInRange p.setting.messages (waiting_of p.waiting)
   pub waiting_count : p.waiting.count ≤ most_waiting
 

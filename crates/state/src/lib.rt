@@ -1,6 +1,8 @@
 // What a planner holds, whether it is sound, and opening one.
 #![tactic(auto)]
 
+ghost use Rattle.std.specs.Prelude.{◌≡◌, ◌-◌};
+
 use messages::Waiting;
 pub use opening::open;
 use queue::Queue;
@@ -20,6 +22,15 @@ pub struct Setting {
     pub messages: u32,
 }
 
+impl Setting {
+    // The slots that a round has for streams: one is kept free with messages on.
+    pub fn stream_slots(&self) -> u32
+        ensures { result ≡ self.now.slots - self.now.messages }
+    {
+        self.slots.saturating_sub(self.messages)
+    }
+}
+
 // The setting and L, the messages that wait, the streams in ascending id, and the queue that files them under their due times.
 #[repr(C)]
 #[derive(Clone, Copy)]
@@ -32,6 +43,7 @@ pub struct Planner {
 }
 
 // What a change answers, and the planner after it.
+// The answer is a number beside it, since a refused call hands its planner back too (Annex 7.3, 7.6; `IsChange`, theorem `same_outcomes`).
 #[derive(Clone, Copy)]
 pub struct Changed {
     pub answer: u32,

@@ -6,57 +6,48 @@ use super::Planner;
 use super::opening::open_refusal;
 use basics::MOST_WAITING;
 use queue::Queue;
-use table::{Column, Table};
+use table::{Record, Table};
 
-// Whether B, F, G, L, the flag and what waits are in range, on any value whatever.
-fn numbers_in_range(p: Planner) -> bool
-    ensures { Decides result (HasNumbers p) }
-{
-    let setting = p.setting;
-    if open_refusal(setting, p.last) != 0 {
-        return false;
+impl Planner {
+    // Whether B, F, G, L, the flag and what waits are in range, on any value whatever.
+    #[tactic(auto, using(crate::proofs::Tests::number_tests))]
+    fn has_numbers(&self) -> bool
+        ensures { Decides result (HasNumbers self.now) }
+    {
+        // As a slice, whose length a proof knows.
+        let _numbers: &[u16] = &self.waiting.numbers;
+        open_refusal(&self.setting, self.last).is_ok()
+            && messages::in_range(self.waiting, MOST_WAITING * self.setting.messages)
     }
-    let waiting = p.waiting;
-    messages::in_range(waiting, MOST_WAITING * setting.messages)
 }
 
 // Whether the queue is sound and files exactly the streams of the table. Ids are looked up by halving: the table has them in ascending order.
-pub fn is_filed_in_range(table: Table, queue: Queue) -> bool
-    requires { CanCompare table }
-    ensures { Decides result (IsFiled table queue) }
+fn is_filed_in_range(table: &Table, queue: &Queue) -> bool
+    requires { CanCompare table.now }
+    ensures { Decides result (IsFiled table.now queue.now) }
 {
-    let ids = table::ids_in_range(table);
-    let dues = table::column_in_range(table, Column::Due);
-    let releases = table::column_in_range(table, Column::Release);
-    queue::is_sound_filing_in_range(queue, ids, dues, releases, table.count)
+    // As a slice, whose length a proof knows.
+    let _places: &[Record] = &table.streams;
+    let ids = table.ids_in_range();
+    let dues = table.column_in_range(0, |stream| stream.release + stream.deadline);
+    let releases = table.column_in_range(0, |stream| stream.release);
+    queue.is_sound_filing_in_range(&ids, &dues, &releases, table.count)
 }
 
-// The planner's next start by the lazy rule, or 0 if it is not sound, on any value whatever. A start is at least 1.
-pub fn sound_start(p: Planner) -> u32
-    ensures { IsSoundStart p result }
+// The planner's next start by the lazy rule, if it is sound, on any value whatever.
+#[tactic(auto, using(crate::proofs::Facts::SoundTest::start_tests))]
+pub fn sound_start(p: &Planner) -> Option<u32>
+    ensures { IsSoundStart p.now result }
 {
-    let setting = p.setting;
-    if !numbers_in_range(p) {
-        return 0;
+    if !p.has_numbers() {
+        return None;
     }
-    let table = p.table;
     let now = p.last + 1;
-    if !table::in_range(table, setting.frame, now) {
-        return 0;
+    if !p.table.in_range(p.setting.frame, now) || !is_filed_in_range(&p.table, &p.queue) {
+        return None;
     }
-    if !is_filed_in_range(table, p.queue) {
-        return 0;
-    }
-    let busy = table::busy_length_in_range(table, setting.slots - setting.messages, setting.frame);
-    if busy == 0 {
-        return 0;
-    }
+    let slots = p.setting.stream_slots();
+    let busy = table::busy_length_in_range(&p.table, slots, p.setting.frame)?;
     // The gap runs from the end of the last round, which is now. The sum is at most 1,000,000,256.
-    table::next_start_in_range(
-        table,
-        setting.slots - setting.messages,
-        now,
-        now + setting.gap,
-        busy,
-    )
+    table::next_start_in_range(&p.table, slots, now, now + p.setting.gap, busy)
 }

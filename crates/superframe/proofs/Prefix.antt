@@ -1,11 +1,19 @@
--- The elements of a list before a place, one more at each turn of a loop.
+-- The elements of a list before a place, one more at each turn of a loop; periods in range, by place and by element.
 use mathlib.Core.Path.{◌≡◌, subst, sym}
+use mathlib.Core.HLevel.{×_prop}
 use mathlib.Core.Logic.Or
 use mathlib.Core.List.{List, [], ◌∷◌, ◌++◌, Mem, mem-append, mem-append_left, mem-append_right, mem-cons_self, not-mem-nil, eq-or-mem_of_mem-cons}
 use Prim.Native.Nat.{ℕ, ◌+◌, ◌<◌}
+use native.Mathlib.Bridge.{le_prop}
 use native.Mathlib.Numerals.{add-one}
 use lib.ListN.{length, take, drop, get_or, take-append-drop}
-use lib.Seq.{take-suc, split_at}
+use lib.Seq.{take-suc}
+use Rattle.std.specs.List.{All}
+use Rattle.std.proofs.lemmas.List.Elements.{All-get_or, All-from_get_or}
+use Rattle.basics.specs.Facts.Members.{get_or_mem, holds_of_members}
+use Rattle.basics.specs.Limits.{longest_period}
+use Rattle.basics.specs.OneTo.{OneTo}
+use Rattle.superframe.specs.Periods.{AllInRange}
 
 -- one place further, one element more
 pub take_next : (xs : List ℕ) (i : ℕ) → i < length xs → take (i + 1) xs ≡ take i xs ++ (get_or xs i 0 ∷ [])
@@ -26,7 +34,11 @@ mem_last xs x = mem-append_right xs mem-cons_self
 pub mem_take : (xs : List ℕ) (i p : ℕ) → Mem p (take i xs) → Mem p xs
 mem_take xs i p m = subst (λ (l : List ℕ). Mem p l) (take-append-drop i xs) (mem-append_left (drop i xs) m)
 
--- what stands at a place of a list is an element of it
-pub mem_get_or : (xs : List ℕ) (i : ℕ) → i < length xs → Mem (get_or xs i 0) xs
-mem_get_or xs i inside =
-    subst (λ (l : List ℕ). Mem (get_or xs i 0) l) (sym (split_at xs i 0 inside)) (mem-append_right (take i xs) mem-cons_self)
+-- periods in range are in range at every place ..
+pub each_place : (periods : List ℕ) → AllInRange periods → All (OneTo longest_period) periods
+each_place periods good = All-from_get_or (OneTo longest_period) periods 0 (λ k inside. good _ (get_or_mem periods k 0 inside))
+
+-- .. and the other way round
+pub each_member : (periods : List ℕ) → All (OneTo longest_period) periods → AllInRange periods
+each_member periods good =
+    holds_of_members (OneTo longest_period) (λ p. ×_prop le_prop le_prop) periods (λ k inside. All-get_or (OneTo longest_period) periods k 0 inside good)

@@ -1,8 +1,11 @@
 -- What the inner functions of the crate promise one another. No caller from outside sees these.
-use Rattle.std.specs.Prelude.{List, ℕ, ◌*◌, ◌≤◌}
+use Rattle.std.specs.Prelude.{List, Result, Ok, Err, ℕ, ◌*◌, ◌≤◌}
 use Rattle.std.specs.Int.{◌∣◌}
 use Rattle.basics.specs.Limits.{longest_frame, longest_period}
+use Rattle.basics.specs.Answers.{number_of}
+use Rattle.basics.specs.declared.refusals.Refusal.{Refusal}
 use Rattle.superframe.specs.Periods.{IsCommonMultiple}
+use Rattle.superframe.specs.Superframe.{Answered, refused}
 
 -- g divides a and b, and whatever divides k times each of them divides k times g; at k = 1, g is the greatest common divisor.
 pub record IsGcd (a b g : ℕ) : Type 0 where
@@ -24,6 +27,7 @@ pub record IsLcmOrAbove (periods : List ℕ) (r : ℕ) : Type 0 where
   pub at_most : (n : ℕ) → IsCommonMultiple periods n → r ≤ n
   pub exact : r ≤ longest_frame → IsCommonMultiple periods r
 
--- An answer and a value that fit side by side.
-abbrev pub Packs : ℕ → ℕ → Type 0
-Packs answer value = (answer ≤ 19) × (value ≤ longest_frame)
+-- The answer and the value that an outcome stands for: 0 and the value of a success, the number of a refusal and 0.
+abbrev pub answered_by : Result ℕ Refusal → Answered
+answered_by (Ok value) = record { answer = 0; value = value }
+answered_by (Err refusal) = refused (number_of refusal)

@@ -2,14 +2,14 @@
 #![tactic(auto)]
 
 ghost use Rattle.std.specs.Prelude.{◌≡◌};
+ghost use Rattle.std.specs.List.{All};
 ghost use Rattle.basics.specs.Decides.{Decides};
 ghost use Rattle.basics.specs.Limits.{longest_frame, longest_period};
 ghost use Rattle.basics.specs.OneTo.{OneTo};
-ghost use Rattle.superframe.specs.Periods.{AllInRange};
 ghost use Rattle.superframe.specs.Superframe.{superframe_of, packed};
-ghost use Rattle.superframe.specs.Multiples.{IsGcd, IsLcmOfTwo, IsLcmOrAbove, Packs};
+ghost use Rattle.superframe.specs.Multiples.{IsGcd, IsLcmOfTwo, IsLcmOrAbove, answered_by};
 
-use basics::{LONGEST_FRAME, LONGEST_PERIOD, is_one_to};
+use basics::{LONGEST_FRAME, LONGEST_PERIOD, Refusal, is_one_to};
 
 // Euclid: the second number falls at each call.
 fn gcd(a: u32, b: u32) -> u32
@@ -31,58 +31,58 @@ fn lcm_within_limit(m: u32, p: u32) -> u32
 fn is_period(p: u8) -> bool
     ensures { Decides result (OneTo longest_period p) }
 {
-    is_one_to(p as u32, LONGEST_PERIOD)
+    is_one_to(u32::from(p), LONGEST_PERIOD)
 }
 
 // Whether every period is 1 to 240; the whole list is looked at, so that 18 wins over 19 wherever the bad one stands.
 fn all_in_range(periods: &[u8]) -> bool
-    ensures { Decides result (AllInRange periods.now) }
+    ensures { Decides result (All (OneTo longest_period) periods.now) }
 {
-    let mut i = 0;
-    while i < periods.len() {
-        if !is_period(periods[i]) {
-            return false;
-        }
-        i += 1;
-    }
-    true
+    periods.iter().all(|period| is_period(*period))
 }
 
 // Stops multiplying once the limit is passed, so nothing overflows however long the list is.
 fn lcm_in_range(periods: &[u8]) -> u32
-    requires { AllInRange periods.now }
+    requires { All (OneTo longest_period) periods.now }
     ensures { IsLcmOrAbove periods.now result }
 {
     let mut m: u32 = 1;
-    let mut at = 0;
-    while at < periods.len() {
+    for period in periods {
         if LONGEST_FRAME < m {
             return m;
         }
-        m = lcm_within_limit(m, periods[at] as u32);
-        at += 1;
+        m = lcm_within_limit(m, u32::from(*period));
     }
     m
 }
 
-// The answer and the value as the one number that C gets.
-fn pack_within_limit(answer: u32, value: u32) -> u32
-    requires { Packs answer value }
-    ensures { result ≡ packed (record { answer = answer; value = value }) }
+// The superframe of the periods, or why there is none.
+fn frame_of(periods: &[u8]) -> Result<u32, Refusal>
+    ensures { answered_by result ≡ superframe_of periods.now }
 {
-    answer * 65536 + value
+    if !all_in_range(periods) {
+        return Err(Refusal::BadPeriodOfList);
+    }
+    let value = lcm_in_range(periods);
+    if LONGEST_FRAME < value {
+        return Err(Refusal::LongFrame);
+    }
+    Ok(value)
+}
+
+// The answer and the value as the one number that C gets.
+fn pack(outcome: Result<u32, Refusal>) -> u32
+    ensures { result ≡ packed (answered_by outcome) }
+{
+    match outcome {
+        Ok(value) => value,
+        Err(refusal) => u32::from(refusal) * 65536,
+    }
 }
 
 // Annex 9.1 to 9.5: 18 if a period is not 1 to 240, else 19 if the least common multiple is above 5,040, both with value 0; else that multiple.
 pub fn superframe(periods: &[u8]) -> u32
     ensures { result ≡ packed (superframe_of periods.now) }
 {
-    if !all_in_range(periods) {
-        return pack_within_limit(18, 0);
-    }
-    let value = lcm_in_range(periods);
-    if LONGEST_FRAME < value {
-        return pack_within_limit(19, 0);
-    }
-    pack_within_limit(0, value)
+    pack(frame_of(periods))
 }

@@ -1,5 +1,5 @@
 -- What the tests of the rules on a table answer, and the sums that they carry from one length to the next.
-use Rattle.std.specs.Prelude.{◌≡◌, ℕ, zero, suc, ◌+◌, ◌-◌, ◌≤◌, ◌<◌, get_or, length}
+use Rattle.std.specs.Prelude.{◌≡◌, ℕ, zero, suc, ◌+◌, ◌≤◌, ◌<◌, get_or, length}
 use Rattle.std.proofs.Math.Logic.{ite}
 use mathlib.Core.List.{List, Mem}
 use Rattle.std.proofs.Math.Decide.{ℕ_discrete}
@@ -8,25 +8,23 @@ use Rattle.basics.specs.Limits.{last_start, places, most_slots, longest_frame, l
 use Rattle.rules.specs.Streams.{Stream, WellFormed}
 use Rattle.rules.specs.Demand.{DemandRule, StartRule, IsLazyStart}
 use Rattle.rules.specs.Ready.{count_by, IsBusy}
-use Rattle.table.specs.Table.{records_of, stream_of, streams_of, stream_at, value_of}
+use Rattle.table.specs.Table.{records_of, stream_of, streams_of}
 use Rattle.table.specs.Range.{RecordInRange, AreNear}
 use Rattle.table.specs.declared.Record.{Record}
 use Rattle.table.specs.declared.Table.{Table}
-use Rattle.table.specs.declared.Column.{Column}
 use Rattle.table.specs.Sums.{AreNext}
 
--- The busy length of the table, or 0 where the demand rule fails.
+-- A busy length of the table, where the demand rule holds.
 pub record IsBusyLength (b : ℕ) (ss : List Stream) (r : ℕ) : Type 0 where
-  pub fails : r ≡ 0 → DemandRule b ss → ⊥
-  pub holds : 1 ≤ r → DemandRule b ss
-  pub busy : 1 ≤ r → IsBusy b ss r
+  pub holds : DemandRule b ss
+  pub busy : IsBusy b ss r
   pub short : r ≤ longest_frame
 
--- The lazy start, or 0 where the start rule fails.
+-- The lazy start, where the start rule holds.
 pub record IsNextStart (b now cap : ℕ) (ss : List Stream) (r : ℕ) : Type 0 where
-  pub fails : r ≡ 0 → StartRule b now ss → ⊥
-  pub holds : 1 ≤ r → StartRule b now ss
-  pub lazy : 1 ≤ r → IsLazyStart b cap ss r
+  pub holds : StartRule b now ss
+  pub lazy : IsLazyStart b cap ss r
+  pub some : 1 ≤ r
 
 -- What the test of the demand rule relies on.
 pub record CanTestDemand (b F : ℕ) (table : Table) : Type 0 where
@@ -51,16 +49,6 @@ pub record IsWalk (first : Stream → ℕ) (table : Table) (t : ℕ) (next : Lis
   pub are_next : AreNext first table t next
   pub counted : sum ≡ count_by first (streams_of table) t
 
--- What narrowing a column relies on: none of its values is below the base, or more than 60,000 above it.
-pub record CanNarrow (column : Column) (table : Table) (base : ℕ) : Type 0 where
-  pub count : table.count ≤ places
-  pub fits : base ≤ 1_900_000_000
-  pub near : (k : ℕ) → k < table.count → (base ≤ value_of column (stream_at table k)) × (value_of column (stream_at table k) ≤ base + 60_000)
-
--- The values of a column less a base, stream by stream.
-abbrev pub IsNarrow : Column → Table → ℕ → List ℕ → Type 0
-IsNarrow column table base r = (k : ℕ) → k < table.count → get_or r k 0 ≡ value_of column (stream_at table k) - base
-
 -- How many due times of one stream, the next of them at `time`, the length t adds ..
 unfoldable pub hits : ℕ → ℕ → ℕ
 hits time t = ite (ℕ_discrete time t) 1 0
@@ -75,15 +63,15 @@ hits_before times t zero = 0
 hits_before times t (suc n) = hits_before times t n + hits (get_or times n 0) t
 
 -- What going one length further relies on.
-pub record CanAdvance (periods times : List ℕ) (n t : ℕ) : Type 0 where
-  pub count : n ≤ places
-  pub room : n ≤ length times
-  pub short : (k : ℕ) → k < n → get_or periods k 0 ≤ longest_period
+pub record CanAdvance (periods times : List ℕ) (t : ℕ) : Type 0 where
+  pub count : length times ≤ places
+  pub room : length times ≤ length periods
+  pub short : (k : ℕ) → k < length times → get_or periods k 0 ≤ longest_period
   pub near : t ≤ 60_000
 
--- One length further, to t: the first n times move on, and r of them were at t.
-pub record IsAdvance (periods times : List ℕ) (n t : ℕ) (later : List ℕ) (r : ℕ) : Type 0 where
-  pub moved : (k : ℕ) → k < n → get_or later k 0 ≡ after_hit (get_or times k 0) t (get_or periods k 0)
-  pub counted : r ≡ hits_before times t n
-  pub few : r ≤ n
+-- One length further, to t: the times move on, and r of them were at t.
+pub record IsAdvance (periods times : List ℕ) (t : ℕ) (later : List ℕ) (r : ℕ) : Type 0 where
+  pub moved : (k : ℕ) → k < length times → get_or later k 0 ≡ after_hit (get_or times k 0) t (get_or periods k 0)
+  pub counted : r ≡ hits_before times t (length times)
+  pub few : r ≤ length times
   pub size : length later ≡ length times

@@ -1,14 +1,13 @@
--- What inner functions of the table promise one another: reading a column, putting a record in, taking one out, serving one.
+-- What inner functions of the table promise one another: putting a record in, taking one out, serving one.
 use Rattle.std.specs.Prelude.{◌≡◌, ℕ, ◌≤◌, ◌<◌}
 use Rattle.std.proofs.Math.Logic.{ite}
 use mathlib.Core.List.{List, Mem, map}
 use Rattle.std.proofs.Math.Decide.{ℕ_discrete}
-use Rattle.basics.specs.Limits.{places, largest_id, largest_key}
-use Rattle.table.specs.Table.{records_of, stream_at, value_of}
+use Rattle.basics.specs.Limits.{places, largest_id}
+use Rattle.table.specs.Table.{records_of}
 use Rattle.table.specs.Changes.{HasId, sent, Ascending}
 use Rattle.table.specs.declared.Record.{Record}
 use Rattle.table.specs.declared.Table.{Table}
-use Rattle.table.specs.declared.Column.{Column}
 
 -- The record of an id passes to its next packet, another stays.
 abbrev pub stepped : ℕ → Record → Record
@@ -17,6 +16,10 @@ stepped id r = ite (ℕ_discrete r.id id) (sent r) r
 -- The table with the record of an id at its next packet.
 unfoldable pub serve : ℕ → List Record → List Record
 serve id rs = map (stepped id) rs
+
+-- What holds of each record of a table.
+abbrev pub EachRecord : (Record → Type 0) → Table → Type 0
+EachRecord P table = (r : Record) → Mem r (records_of table) → P r
 
 -- A table with just these records; they fit its 64 places.
 pub record HasRecords (rs : List Record) (table : Table) : Type 0 where
@@ -39,8 +42,3 @@ pub record CanPut (table : Table) (id : ℕ) : Type 0 where
 pub record CanTakeOut (table : Table) (id : ℕ) : Type 0 where
   pub can_search : CanSearch table
   pub held : HasId id (records_of table)
-
--- What reading a column relies on.
-pub record CanRead (column : Column) (table : Table) : Type 0 where
-  pub count : table.count ≤ places
-  pub small : (k : ℕ) → k < table.count → value_of column (stream_at table k) ≤ largest_key

@@ -1,20 +1,19 @@
 -- What the search for the next start hands from one part to the next.
-use Rattle.std.specs.Prelude.{◌≡◌, ℕ, ◌+◌, ◌-◌, ◌≤◌, ◌<◌, get_or}
+use Rattle.std.specs.Prelude.{◌≡◌, ℕ, ◌+◌, ◌-◌, ◌≤◌, ◌<◌, get_or, length}
 use mathlib.Core.List.{List, Mem}
 use Rattle.basics.specs.OneTo.{OneTo}
 use Rattle.basics.specs.Limits.{key_span, most_slots}
 use Rattle.rules.specs.Streams.{Stream, due}
 use Rattle.rules.specs.Demand.{future, ceil}
-use Rattle.table.specs.Table.{streams_of}
-use Rattle.table.specs.Lengths.{CanFindStart, IsNarrow}
+use Rattle.table.specs.Table.{streams_of, IsColumn}
+use Rattle.table.specs.Lengths.{CanFindStart}
 use Rattle.table.specs.Sums.{HasPeriods}
 use Rattle.table.specs.declared.Table.{Table}
-use Rattle.table.specs.declared.Column.TheVariants.{Due}
 
--- The least of the first n values.
-pub record IsLeastOf (values : List ℕ) (n r : ℕ) : Type 0 where
-  pub at_most : (k : ℕ) → k < n → r ≤ get_or values k 0
-  pub reached : (k : ℕ) × (k < n) × (r ≡ get_or values k 0)
+-- The least of some values.
+pub record IsLeastOf (values : List ℕ) (least : ℕ) : Type 0 where
+  pub at_most : (k : ℕ) → k < length values → least ≤ get_or values k 0
+  pub reached : (k : ℕ) × (k < length values) × (least ≡ get_or values k 0)
 
 -- What counting rounds up from `needed` relies on: that many are not too many.
 pub record CanCountRounds (needed packets b : ℕ) : Type 0 where
@@ -30,7 +29,7 @@ due_from x s = due s - x
 pub record CanLookFrom (b x latest first T : ℕ) (table : Table) (periods dues : List ℕ) : Type 0 where
   pub can : CanFindStart b x latest T table
   pub has : HasPeriods table periods
-  pub column : IsNarrow Due table x dues
+  pub column : IsColumn (due_from x) table dues
   pub before : (s : Stream) → Mem s (streams_of table) → first ≤ due s
   pub counts : 0 < future (streams_of table) first
   pub after : x < first

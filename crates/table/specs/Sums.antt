@@ -8,7 +8,6 @@ use Rattle.rules.specs.Ready.{AllWellFormed, most_in}
 use Rattle.table.specs.Table.{streams_of, stream_at, IsColumn}
 use Rattle.table.specs.declared.Table.{Table}
 use Rattle.table.specs.declared.lengths.Sums.{Sums}
-use Rattle.table.specs.declared.Column.TheVariants.{Period}
 
 -- Annex 12.19: the first due time after t, of due times first, first + period and so on.
 unfoldable pub next_after : ℕ → ℕ → ℕ → ℕ
@@ -23,7 +22,7 @@ pub record AreNext (first : Stream → ℕ) (table : Table) (t : ℕ) (next : Li
 pub record HasPeriods (table : Table) (periods : List ℕ) : Type 0 where
   pub count : table.count ≤ places
   pub within : table.count ≤ length table.streams
-  pub column : IsColumn Period table periods
+  pub column : IsColumn (λ s. s.period) table periods
   pub range : (k : ℕ) → k < table.count → OneTo longest_period (stream_at table k).period
 
 -- Annex 12.19: at length t the sums carried are the rules' own, the demand and the busy length's W(t), and in each stream's place stand the next

@@ -1,10 +1,8 @@
 -- A table of records in code, and what the rules see of it.
 use Rattle.std.specs.Prelude.{◌≡◌, List, map, ℕ, ◌+◌, ◌<◌, take, get_or}
-use Rattle.rules.specs.Streams.{Stream, due}
+use Rattle.rules.specs.Streams.{Stream}
 use Rattle.table.specs.declared.Record.{Record}
 use Rattle.table.specs.declared.Table.{Table}
-use Rattle.table.specs.declared.Column.{Column}
-use Rattle.table.specs.declared.Column.TheVariants.{Period, Deadline, Due, Release}
 
 -- Annex 3.2: the records are those in the first `count` places; the other places do not count.
 abbrev pub records_of : Table → List Record
@@ -42,13 +40,6 @@ record_at t k = get_or t.streams k no_record
 abbrev pub stream_at : Table → ℕ → Stream
 stream_at t k = stream_of (record_at t k)
 
--- Annex 12.19: what a column of the table has of a stream.
-abbrev pub value_of : Column → Stream → ℕ
-value_of Period s = s.period
-value_of Deadline s = s.deadline
-value_of Due s = due s
-value_of Release s = s.release
-
--- Annex 12.19: the values of a column, stream by stream.
-abbrev pub IsColumn : Column → Table → List ℕ → Type 0
-IsColumn column table r = (k : ℕ) → k < table.count → get_or r k 0 ≡ value_of column (stream_at table k)
+-- Annex 12.19: a column of the table: a number of each stream, at its place.
+abbrev pub IsColumn : (Stream → ℕ) → Table → List ℕ → Type 0
+IsColumn f table r = (k : ℕ) → k < table.count → get_or r k 0 ≡ f (stream_at table k)

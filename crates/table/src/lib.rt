@@ -2,12 +2,12 @@
 // whose names end in _in_range.
 #![tactic(auto)]
 
-pub use changes::{
-    at_next_packet_in_range, has_id_in_range, no_record, put_in_range, take_out_in_range,
-};
-pub use columns::{column_in_range, ids_in_range};
+ghost use Rattle.std.specs.Prelude.{◌≡◌, ◌≤◌};
+ghost use Rattle.basics.specs.Limits.{places};
+ghost use Rattle.table.specs.Table.{records_of};
+
+pub use changes::no_record;
 pub use lengths::busy_length_in_range;
-pub use range::in_range;
 pub use start::next_start_in_range;
 
 mod changes;
@@ -34,11 +34,12 @@ pub struct Table {
     pub streams: [Record; 64],
 }
 
-// What a column of numbers is made of.
-#[derive(Clone, Copy)]
-pub enum Column {
-    Period,
-    Deadline,
-    Due,
-    Release,
+impl Table {
+    // Annex 3.2: the records; the other places do not count.
+    fn records(&self) -> &[Record]
+        requires { self.now.count ≤ places }
+        ensures { result.now ≡ records_of self.now }
+    {
+        &self.streams[..self.count]
+    }
 }

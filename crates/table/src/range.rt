@@ -6,80 +6,58 @@ ghost use Rattle.table.specs.RangeTests.{DueAfterNow, ReleasedSoon, IsNear, CanF
 use super::{Record, Table};
 use basics::{FURTHEST_RELEASE, LARGEST_ID, LONGEST_PERIOD, PLACES, is_one_to};
 
-// The frame is divided only once the period is known not to be 0.
-fn record_in_range(stream: Record, frame: u32) -> bool
-    ensures { Decides result (RecordInRange frame stream) }
-{
-    if !is_one_to(stream.id, LARGEST_ID) {
-        return false;
+impl Record {
+    fn in_range(&self, frame: u32) -> bool
+        ensures { Decides result (RecordInRange frame self.now) }
+    {
+        is_one_to(self.id, LARGEST_ID)
+            && is_one_to(self.period, LONGEST_PERIOD)
+            && frame.is_multiple_of(self.period)
+            && is_one_to(self.deadline, self.period)
     }
-    if !is_one_to(stream.period, LONGEST_PERIOD) {
-        return false;
+
+    // Release and deadline are not added up: a release after now is enough.
+    fn is_due_after(&self, now: u32) -> bool
+        ensures { Decides result (DueAfterNow now self.now) }
+    {
+        now < self.release || now - self.release < self.deadline
     }
-    if frame % stream.period != 0 {
-        return false;
+
+    fn is_released_soon(&self, now: u32) -> bool
+        ensures { Decides result (ReleasedSoon now self.now) }
+    {
+        self.release.saturating_sub(FURTHEST_RELEASE) <= now
     }
-    is_one_to(stream.deadline, stream.period)
+
+    fn is_near(&self, now: u32) -> bool
+        ensures { Decides result (IsNear now self.now) }
+    {
+        self.is_due_after(now) && self.is_released_soon(now)
+    }
+
+    // Whether a stream is in range and near, and its id is greater than the one before.
+    fn can_follow(&self, before: u32, frame: u32, now: u32) -> bool
+        ensures { Decides result (CanFollow frame now before self.now) }
+    {
+        before < self.id && self.in_range(frame) && self.is_near(now)
+    }
 }
 
-// Release and deadline are not added up: a release after now is enough.
-fn is_due_after(stream: Record, now: u32) -> bool
-    ensures { Decides result (DueAfterNow now stream) }
-{
-    if now < stream.release {
-        return true;
-    }
-    now - stream.release < stream.deadline
-}
-
-fn is_released_soon(stream: Record, now: u32) -> bool
-    ensures { Decides result (ReleasedSoon now stream) }
-{
-    if stream.release < FURTHEST_RELEASE {
-        return true;
-    }
-    stream.release - FURTHEST_RELEASE <= now
-}
-
-fn is_near(stream: Record, now: u32) -> bool
-    ensures { Decides result (IsNear now stream) }
-{
-    if !is_due_after(stream, now) {
-        return false;
-    }
-    is_released_soon(stream, now)
-}
-
-// Whether a stream is in range and near, and its id is greater than the one before.
-fn can_follow(stream: Record, before: u32, frame: u32, now: u32) -> bool
-    ensures { Decides result (CanFollow frame now before stream) }
-{
-    if stream.id <= before {
-        return false;
-    }
-    if !record_in_range(stream, frame) {
-        return false;
-    }
-    is_near(stream, now)
-}
-
-// Whether the table's count, its streams, and the unserved packets they hold are in range, on any value whatever.
-pub fn in_range(table: Table, frame: u32, now: u32) -> bool
-    ensures { Decides result (TableInRange frame now table) }
-{
-    if PLACES < table.count {
-        return false;
-    }
-    let streams = table.streams;
-    let mut before: u32 = 0;
-    let mut i: usize = 0;
-    while i < table.count {
-        let stream = streams[i];
-        if !can_follow(stream, before, frame, now) {
+impl Table {
+    // Whether the table's count, its streams, and the unserved packets they hold are in range, on any value whatever.
+    pub fn in_range(&self, frame: u32, now: u32) -> bool
+        ensures { Decides result (TableInRange frame now self.now) }
+    {
+        if PLACES < self.count {
             return false;
         }
-        before = stream.id;
-        i += 1;
+        let mut before: u32 = 0;
+        for stream in self.records() {
+            if !stream.can_follow(before, frame, now) {
+                return false;
+            }
+            before = stream.id;
+        }
+        true
     }
-    true
 }

@@ -1,37 +1,25 @@
 // The start rule and the lazy rule on a table: the lengths looked at are a busy length of them from the first due time on.
-ghost use Rattle.std.specs.Prelude.{◌≡◌, min};
-ghost use Rattle.basics.specs.Limits.{places};
-ghost use Rattle.basics.specs.OneTo.{OneTo};
-ghost use Rattle.rules.specs.Demand.{ceil};
+ghost use Rattle.std.specs.Prelude.{◌≡◌, min, length, MatchOption};
+ghost use Rattle.rules.specs.Demand.{StartRule, ceil};
 ghost use Rattle.table.specs.Table.{streams_of};
 ghost use Rattle.table.specs.Lengths.{CanFindStart, IsNextStart};
 ghost use Rattle.table.specs.Start.{IsLeastOf, CanCountRounds, CanLookFrom};
 
-use super::lengths::{advance, narrow_column_in_range};
-use super::{Column, Table};
-use basics::wide;
+use super::Table;
+use super::lengths::advance;
 
+// The least of the values, if there is one.
+fn least_of(values: &[u16]) -> Option<u16>
+    ensures { MatchOption result (length values.now ≡ 0) (λ least. IsLeastOf values.now least) }
+{
+    values.iter().copied().min()
+}
+
+// The lesser of two: no_division is proved of this code, and of the library's `min` it cannot be.
 fn lesser(x: u32, y: u32) -> u32
     ensures { result ≡ min y x }
 {
-    if y < x {
-        return y;
-    }
-    x
-}
-
-// The least of the first values.
-fn least_of(values: [u16; 64], count: usize) -> u32
-    requires { OneTo places count }
-    ensures { IsLeastOf values count result }
-{
-    let mut least = wide(values[0]);
-    let mut i: usize = 1;
-    while i < count {
-        least = lesser(least, wide(values[i]));
-        i += 1;
-    }
-    least
+    if y < x { y } else { x }
 }
 
 // How many rounds of that many slots the packets take, where `needed` are not too many: counted up, since a division for each length
@@ -47,48 +35,47 @@ fn rounds_from(needed: u32, packets: u32, slots: u32) -> u32
     n
 }
 
-// What next_start_in_range answers, where `first` is the first due time, and `dues` are the due times less now.
+// What next_start_in_range answers, where `first` is the first due time, and `times` are the due times less now.
 fn start_from(
-    table: Table,
-    periods: [u16; 64],
-    dues: [u16; 64],
+    table: &Table,
+    periods: &[u16; 64],
+    times: &mut [u16; 64],
     slots: u32,
     now: u32,
     cap: u32,
     first: u32,
     busy: u32,
-) -> u32
-    requires { CanLookFrom slots now cap first busy table periods dues }
-    ensures { IsNextStart slots now cap (streams_of table) result }
+) -> Option<u32>
+    requires { CanLookFrom slots now cap first busy table.now periods.now times.old }
+    ensures { MatchOption result (¬ StartRule slots now (streams_of table.now)) (IsNextStart slots now cap (streams_of table.now)) }
 {
-    let end = first + busy;
-    let mut times = dues;
     let mut sum: u32 = 0;
     let mut needed: u32 = 0;
     let mut start = cap;
-    let mut t = first;
-    while t < end {
-        sum += advance(&periods, &mut times, table.count, (t - now) as u16) as u32;
+    for t in first..first + busy {
+        sum += advance(periods, &mut times[..table.count], (t - now) as u16) as u32;
         needed = rounds_from(needed, sum, slots);
         if t < now + needed {
-            return 0;
+            return None;
         }
         start = lesser(start, t - needed);
-        t += 1;
     }
-    start
+    Some(start)
 }
 
-// The lazy start, or 0 if the start rule fails.
-pub fn next_start_in_range(table: Table, slots: u32, now: u32, cap: u32, busy: u32) -> u32
-    requires { CanFindStart slots now cap busy table }
-    ensures { IsNextStart slots now cap (streams_of table) result }
+// The lazy start, if the start rule holds.
+pub fn next_start_in_range(table: &Table, slots: u32, now: u32, cap: u32, busy: u32) -> Option<u32>
+    requires { CanFindStart slots now cap busy table.now }
+    ensures { MatchOption result (¬ StartRule slots now (streams_of table.now)) (IsNextStart slots now cap (streams_of table.now)) }
 {
-    if table.count == 0 {
-        return cap;
-    }
-    let periods = narrow_column_in_range(table, Column::Period, 0);
-    let dues = narrow_column_in_range(table, Column::Due, now);
-    let first = now + least_of(dues, table.count);
-    start_from(table, periods, dues, slots, now, cap, first, busy)
+    let periods = table.column_in_range(0, |stream| stream.period as u16);
+    let mut dues = table.column_in_range(
+        0,
+        |stream| (stream.release + stream.deadline - now) as u16,
+    );
+    let Some(least) = least_of(&dues[..table.count]) else {
+        return Some(cap);
+    };
+    let first = now + u32::from(least);
+    start_from(table, &periods, &mut dues, slots, now, cap, first, busy)
 }

@@ -1,5 +1,5 @@
 -- Why reading field after field finds the numbers of a line.
-use Rattle.std.specs.Prelude.{◌≡◌, refl, ◌⊎◌, ℕ, ◌+◌, ◌≤◌, ◌<◌, length, take, drop, get_or}
+use Rattle.std.specs.Prelude.{◌≡◌, refl, ◌⊎◌, Option, Some, None, ℕ, ◌+◌, ◌≤◌, ◌<◌, length, take, drop, get_or}
 use Rattle.std.proofs.Common.{sym, ap, ◌∙◌, inl, inr, lt_irrefl, add-one, arith, length-append, length-drop, take-append-drop, drop-cons, drop-drop}
 use mathlib.Core.List.{List, [], ◌∷◌, ◌++◌, mem-cons_self, head-eq_of_cons-eq, tail-eq_of_cons-eq}
 use Rattle.std.proofs.Math.Seq.{take-append_seam, drop-append_seam, get_or-append_seam}
@@ -8,8 +8,7 @@ use Rattle.command.specs.Commands.{number_limit}
 use Rattle.command.proofs.Facts.Text.{numeral_unique}
 use Rattle.command.proofs.Facts.Numbers.{ends_last}
 use Rattle.command.specs.Reads.{Ends, at_end, before_other, IsNumberAtStart, IsReadNumber, IsReadField, Fit}
-use Rattle.command.specs.declared.numbers.Number.{Number}
-use Rattle.command.specs.declared.numbers.Number.TheVariants.{Value, Bad}
+use Rattle.command.specs.declared.numbers.Numeral.{Numeral}
 
 -- The first field of some, and the rest.
 pub record IsFirst (bytes ns : List ℕ) : Type 0 where
@@ -108,7 +107,7 @@ module _ (line : List ℕ) (at : ℕ) (inside : at < length line) where
             record { others = f.others; numbers = rw same.0 f.numbers; fields = rw rest f.further }
 
   -- where no field can be read, none is written
-  pub field_bad : IsReadField line at Bad → (ns : List ℕ) → Fit ns → IsFields (drop at line) ns → ⊥
+  pub field_bad : IsReadField line at None → (ns : List ℕ) → Fit ns → IsFields (drop at line) ns → ⊥
   field_bad bad ns fit fields = go (fields_cases fields)
     where
       go : ((drop at line ≡ []) × (ns ≡ [])) ⊎ IsFirst (drop at line) ns → ⊥
@@ -121,6 +120,6 @@ module _ (line : List ℕ) (at : ℕ) (inside : at < length line) where
           bad comma f.number (length f.numeral_bytes) (rw here number)
 
 -- The answer of the number reader holds for the field too.
-pub field_read : (line : List ℕ) (at : ℕ) (r : Number) → get_or line at 0 ≡ 44 → IsReadNumber (drop (at + 1) line) r → IsReadField line at r
-field_read line at (Value v n) comma read = (comma, read)
-field_read line at Bad comma read = λ _. read
+pub field_read : (line : List ℕ) (at : ℕ) (r : Option Numeral) → get_or line at 0 ≡ 44 → IsReadNumber (drop (at + 1) line) r → IsReadField line at r
+field_read line at (Some r) comma read = (comma, read)
+field_read line at None comma read = λ _. read

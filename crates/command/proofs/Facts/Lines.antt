@@ -1,7 +1,6 @@
 -- What stays true from field to field of a line, and what it says at the end and where reading fails.
-use Rattle.std.specs.Prelude.{◌≡◌, refl, true, false, ◌⊎◌, ℕ, ◌+◌, ◌≤◌, ◌<◌, length, take, drop, get_or, set}
-use Rattle.std.proofs.Common.{sym, ap, ◌∙◌, true≢false, inl, inr, lt_irrefl, add-one, arith, length-append, length-set, drop_of_length-le, take-suc-set, length-take-le}
-use Rattle.std.proofs.lemmas.Bool.{false≢true}
+use Rattle.std.specs.Prelude.{◌≡◌, refl, ◌⊎◌, None, ℕ, ◌+◌, ◌≤◌, ◌<◌, length, take, drop, get_or, set}
+use Rattle.std.proofs.Common.{sym, ap, subst, ◌∙◌, inl, inr, lt_irrefl, add-one, arith, length-append, length-set, drop_of_length-le, take-suc-set, length-take-le}
 use Rattle.std.proofs.Math.Logic.Or
 use Rattle.std.proofs.Math.Logic.{∥∥₁_elim}
 use mathlib.Core.List.Memᴰ
@@ -10,8 +9,7 @@ use Rattle.std.proofs.Math.Bridge.{le_prop}
 use Rattle.command.specs.Text.{IsFields, none}
 use Rattle.command.specs.Commands.{number_limit}
 use Rattle.command.proofs.Facts.Fields.{IsFirst, fields_cases, not_at_end, IsAfter, field_within, field_on, field_back, field_bad}
-use Rattle.command.specs.Reads.{IsNumberAtStart, IsReadField, Fit, AreNumbers, IsReadFields}
-use Rattle.command.specs.declared.numbers.Number.TheVariants.{Bad}
+use Rattle.command.specs.Reads.{IsNumberAtStart, IsReadField, Fit, AreNumbers}
 
 fit_last : {ns : List ℕ} {v : ℕ} → Fit ns → v < number_limit → Fit (ns ++ (v ∷ []))
 fit_last {ns = ns} {v = v} fit small n there =
@@ -40,17 +38,18 @@ at_first line values some places =
 
 module _ {line values : List ℕ} {count at : ℕ} (to : IsReadUpTo line values count at) where
   -- one field more
-  pub field_more : at < length line → count < 4 → {v n : ℕ} → get_or line at 0 ≡ 44 → IsNumberAtStart (drop (at + 1) line) v n
-      → IsReadUpTo line (set values count v) (count + 1) (at + 1 + n)
-  field_more inside room {v = v} {n = n} comma start =
-      record {
+  pub field_more : at < length line → count < 4 → {v n next : ℕ} → get_or line at 0 ≡ 44 → IsNumberAtStart (drop (at + 1) line) v n
+      → at + 1 + n ≡ next → IsReadUpTo line (set values count v) (count + 1) next
+  field_more inside room {v = v} {n = n} comma start ends =
+      subst (IsReadUpTo line (set values count v) (count + 1)) ends
+      (record {
         within = field_within line at inside comma start;
         counted = omega arith;
         places = length-set values count v ∙ to.places;
         fit = rw longer (fit_last to.fit start.fits);
         on = λ ns fields. rw (longer, append_assoc (take count values) (v ∷ []) ns) (to.on (v ∷ ns) (field_on line at inside comma start ns fields));
         back = after;
-      }
+      })
     where
       longer : take (count + 1) (set values count v) ≡ take count values ++ (v ∷ [])
       longer = rw (add-one count, take-suc-set values count v (omega (arith, to.places)))
@@ -102,17 +101,7 @@ module _ {line values : List ℕ} {count at : ℕ} (to : IsReadUpTo line values 
           lt_irrefl 0 (omega (arith, four, ap length rest.numbers, length-append (take count values) rest.others, ap length f.numbers))
 
   -- nor is one with a field that cannot be read
-  pub field_fails : at < length line → IsReadField line at Bad → (ns : List ℕ) → Fit ns → IsFields (drop 1 line) ns → ⊥
+  pub field_fails : at < length line → IsReadField line at None → (ns : List ℕ) → Fit ns → IsFields (drop 1 line) ns → ⊥
   field_fails inside bad ns fit fields =
       let rest = to.back ns fields in
       field_bad line at inside bad rest.others (λ n there. fit n (rw rest.numbers (mem-append_right (take count values) there))) rest.fields
-
--- what is answered of a line that is not good, and of one that is
-pub not_good : {line values : List ℕ} {count : ℕ} → ((ns : List ℕ) → length ns ≤ 4 → Fit ns → IsFields (drop 1 line) ns → ⊥)
-    → IsReadFields line (record { good = false; count = count; values = values })
-not_good fails = record { read = λ e. absurd (false≢true e); bad = λ _. fails }
-
--- to call the fields good is right where the first `count` values are the line's numbers, and no others are
-pub is_good : {line values : List ℕ} {count : ℕ} → count ≤ length values → AreNumbers line (take count values)
-    → IsReadFields line (record { good = true; count = count; values = values })
-is_good within numbers = record { read = λ _. (within, numbers); bad = λ e. absurd (true≢false e) }

@@ -1,8 +1,10 @@
 -- What is put into a buffer piece by piece, and what numerals, fields and lines are made of.
-use Rattle.std.specs.Prelude.{◌≡◌, refl, List, [], ◌∷◌, ◌++◌, ℕ, zero, suc, ◌+◌, ◌*◌, ◌/◌, ◌%◌, ◌^◌, ◌≤◌, ◌<◌, length, get_or, take, drop, set}
-use Rattle.std.proofs.Common.{sym, ap, subst, ◌∙◌, append-nil, append_assoc, add-zero, mod-lt, add-one, arith, length-append, length-take, length-drop, take-append-drop, length-take-le, take-suc, take_at, drop_at, drop-drop}
+use Rattle.std.specs.Prelude.{◌≡◌, refl, List, [], ◌∷◌, ◌++◌, ℕ, zero, suc, ◌+◌, ◌-◌, ◌*◌, ◌/◌, ◌%◌, ◌^◌, ◌≤◌, ◌<◌, length, get_or, take, drop, set}
+use Rattle.std.proofs.Common.{sym, ap, subst, ◌∙◌, append-nil, append_assoc, add-zero, mod-lt, add-one, arith, length-append, length-take}
+use Rattle.std.proofs.Common.{length-drop, take-append-drop, length-take-le, take-suc, take_at, take_all, drop_at, drop-drop, drop_of_length-le}
 use Rattle.std.proofs.Math.Path.{subst⁻¹}
 use Rattle.std.proofs.lemmas.List.{set_split}
+use borrow.Rule.Slice.PartMut.{put_mid}
 use Rattle.command.specs.Text.{IsNumeral, IsFields, IsWritten}
 use Rattle.command.specs.Text.IsNumeral.{digit, further}
 use Rattle.command.specs.Text.IsFields.{none, more}
@@ -18,16 +20,12 @@ put_byte l at b inside =
       content = set_split l at b inside ∙ ap (λ (n : ℕ). take at l ++ (b ∷ drop n l)) (sym (add-one at));
     }
 
--- A byte takes one place.
-pub byte_ends : {before after : List ℕ} {at r b : ℕ} → IsPut (λ bytes. bytes ≡ b ∷ []) before after at r → r ≡ at + 1
-byte_ends {at} put = put.ends ∙ ap (λ (l : List ℕ). at + length l) put.property
-
 -- Nothing put.
 pub put_none : {P : List ℕ → Type 0} (l : List ℕ) (at : ℕ) → P [] → IsPut P l l at at
 put_none l at nothing = record { bytes = []; property = nothing; ends = sym (add-zero at); content = sym (take-append-drop at l) }
 
 -- A property that follows from another.
-put_as : {P Q : List ℕ → Type 0} {before after : List ℕ} {at r : ℕ} → ((bytes : List ℕ) → P bytes → Q bytes)
+pub put_as : {P Q : List ℕ → Type 0} {before after : List ℕ} {at r : ℕ} → ((bytes : List ℕ) → P bytes → Q bytes)
     → IsPut P before after at r → IsPut Q before after at r
 put_as follows put = record { bytes = put.bytes; property = follows put.bytes put.property; ends = put.ends; content = put.content }
 
@@ -57,6 +55,26 @@ put_then {before} {mid} {after} {at} {r₁} {r₂} inside together first second 
           ∙ ap (λ (l : List ℕ). front ++ (q ++ l)) past
           ∙ append_assoc (take at before) p (q ++ drop r₂ before)
           ∙ ap (λ (l : List ℕ). take at before ++ l) (sym (append_assoc p q (drop r₂ before)));
+    }
+
+-- What is put at the front of the rest of a buffer stands in the buffer from where the rest begins.
+pub put_in_rest : {P : List ℕ → Type 0} {before part : List ℕ} (at : ℕ) {n : ℕ} → at ≤ length before
+    → IsPut P (take (length before - at) (drop at before)) part 0 n
+    → IsPut P before (put_mid at (length before - at) before part) at (at + n)
+put_in_rest {before = before} {part = part} at {n} inside put =
+    let rest : take (length before - at) (drop at before) ≡ drop at before =
+    take_all (length before - at) (drop at before) (omega (arith, length-drop at before)) in
+    let behind : drop (length before - at) (drop at before) ≡ [] =
+    drop_of_length-le (drop at before) {i = length before - at} (omega (arith, length-drop at before)) in
+    record {
+      bytes = put.bytes;
+      property = put.property;
+      ends = omega (arith, put.ends);
+      content =
+          ap (λ (l : List ℕ). take at before ++ (part ++ l)) behind
+          ∙ ap (λ (l : List ℕ). take at before ++ l) (append-nil part ∙ put.content)
+          ∙ ap (λ (l : List ℕ). take at before ++ (put.bytes ++ drop n l)) rest
+          ∙ ap (λ (l : List ℕ). take at before ++ (put.bytes ++ l)) (drop-drop n at before);
     }
 
 -- A number below 10 ^ k has at most k digits.

@@ -1,5 +1,5 @@
 -- Twins answer a line with the same text.
-use Rattle.std.specs.Prelude.{◌≡◌, refl, List, [], ◌∷◌, ◌++◌, ℕ, ◌+◌, length, take, drop}
+use Rattle.std.specs.Prelude.{◌≡◌, refl, Option, Some, None, List, [], ◌∷◌, ◌++◌, ℕ, ◌+◌, length, take, drop}
 use Rattle.std.proofs.Common.{sym, ap, subst, ◌∙◌}
 use Rattle.std.proofs.Math.Path.{subst⁻¹}
 use Rattle.std.proofs.Math.Decide.{ℕ_discrete}
@@ -14,7 +14,7 @@ use Rattle.command.specs.Step.{IsAnswer, IsStep}
 use Rattle.command.specs.Puts.{AreLines, lines_of}
 use Rattle.command.proofs.Facts.Unique.{says_one, lines_text}
 use Rattle.command.specs.declared.Command.{Command}
-use Rattle.command.specs.declared.Command.TheVariants.{Open, Add, Remove, Round, Malformed}
+use Rattle.command.specs.declared.Command.TheVariants.{Open, Add, Remove, Round}
 use Rattle.command.specs.declared.answers.Answered.{Answered}
 use Rattle.command.specs.declared.step.Step.{Step}
 
@@ -33,21 +33,21 @@ same_given {l = l} twins same given given' =
     }
 
 -- twins answer a command alike
-same_answered : {p q : Planner} → AreTwins p q → (number : ℕ) (c : Command) (r s : Answered) → IsAnswered p number c r → IsAnswered q number c s
+same_answered : {p q : Planner} → AreTwins p q → (number : ℕ) (c : Option Command) (r s : Answered) → IsAnswered p number c r → IsAnswered q number c s
     → IsSameAnswer r s
-same_answered twins number (Open b f g t) r s is is' =
+same_answered twins number (Some (Open b f g t)) r s is is' =
     let same = same_opening is.by_contract is'.by_contract in
     same_given (equal_are_twins same.1) (ap (λ (n : ℕ). n ∷ []) same.0) is.given is'.given
-same_answered twins number (Add id start period deadline) r s is is' =
+same_answered twins number (Some (Add id start period deadline)) r s is is' =
     let o = offer id start period deadline in
     let holds : Content → Content = λ h. added h o in
     same_given (change_twins twins (add_rest o) holds is.by_contract is'.by_contract)
     (ap (λ (n : ℕ). id ∷ n ∷ []) (change_answers twins (add_rest o) holds is.by_contract is'.by_contract)) is.given is'.given
-same_answered twins number (Remove id) r s is is' =
+same_answered twins number (Some (Remove id)) r s is is' =
     let holds : Content → Content = λ h. removed h id in
     same_given (change_twins twins (remove_rest id) holds is.by_contract is'.by_contract)
     (ap (λ (n : ℕ). id ∷ n ∷ []) (change_answers twins (remove_rest id) holds is.by_contract is'.by_contract)) is.given is'.given
-same_answered twins number Round r s is is' = go (ℕ_discrete is.done.answer 0)
+same_answered twins number (Some Round) r s is is' = go (ℕ_discrete is.done.answer 0)
   where
     same : IsSameRound is.before is'.before is.after is'.after is.done is'.done
     same = same_round twins (is.places ∙ sym is'.places) is.by_contract is'.by_contract
@@ -57,15 +57,15 @@ same_answered twins number Round r s is is' = go (ℕ_discrete is.done.answer 0)
         same_given same.twins_after (λ i. 0 ∷ same.start i ∷ same.n i ∷ same.listed i) (is.held zero) (is'.held (sym same.answer ∙ zero))
     go (no some) =
         same_given same.twins_after (ap (λ (n : ℕ). n ∷ []) same.answer) (is.refused some) (is'.refused (λ zero. some (same.answer ∙ zero)))
-same_answered twins number Malformed r s is is' = same_given twins refl is is'
+same_answered twins number None r s is is' = same_given twins refl is is'
 
 -- Annex 12.25: twins answer a line with the same bytes, and twins are left
-pub same_text : {p q : Planner} → AreTwins p q → (number : ℕ) (line : List ℕ) (c d : Command) (r s : Answered) → Says line c → Says line d
+pub same_text : {p q : Planner} → AreTwins p q → (number : ℕ) (line : List ℕ) (c d : Option Command) (r s : Answered) → Says line c → Says line d
     → IsAnswered p number c r → IsAnswered q number d s → (one other : List ℕ)
     → AreLines (lines_of r.lines) one → AreLines (lines_of s.lines) other → (one ≡ other) × AreTwins r.planner s.planner
 same_text {p} {q} twins number line c d r s says says' is is' one other text text' =
     let command = says_one line d c says' says in
-    let same = same_answered twins number c r s is (subst (λ (x : Command). IsAnswered q number x s) command is') in
+    let same = same_answered twins number c r s is (subst (λ (x : Option Command). IsAnswered q number x s) command is') in
     let text'' = subst⁻¹ (λ (lines : List (ℕ × List ℕ)). AreLines lines other) same.lines text' in
     (lines_text text text'', same.twins)
 

@@ -1,26 +1,49 @@
 -- Facts on numerals: of digits alone, with one value, and cut off after a byte they are numerals again.
-use Rattle.std.specs.Prelude.{◌≡◌, refl, List, [], ◌∷◌, ◌++◌, ℕ, zero, suc, ◌+◌, ◌-◌, ◌*◌, ◌≤◌, ◌<◌, length, take, get_or}
-use Rattle.std.proofs.Common.{sym, ◌∙◌, lt_irrefl, arith, length-append}
+use Rattle.std.specs.Prelude.{◌≡◌, refl, List, [], ◌∷◌, ◌++◌, ℕ, zero, suc, ◌+◌, ◌-◌, ◌*◌, ◌≤◌, ◌<◌, length, take, drop, get_or}
+use Rattle.std.proofs.Common.{sym, ap, ◌∙◌, lt_irrefl, add-one, arith, length-append, take-suc, take-append-drop}
 use Rattle.std.proofs.Math.Decide.{dec_lt}
 use Rattle.std.proofs.Math.ListN.{get_or-append}
 use Rattle.std.proofs.lemmas.List.{take-append-le}
 use Rattle.std.proofs.Math.Seq.{take-append_seam, get_or-append_seam}
 use Rattle.command.specs.Text.{IsNumeral, digit, further}
-use Rattle.command.specs.Reads.{IsDigit}
+use Rattle.command.specs.Commands.{number_limit}
+use Rattle.command.specs.Reads.{IsDigit, value_from}
 
--- The value of digits that follow a number m.
-unfoldable pub value_from : ℕ → List ℕ → ℕ
-value_from m [] = m
-value_from m (byte ∷ bytes) = value_from (m * 10 + (byte - 48)) bytes
+-- with further digits the value grows
+pub value_grows : (m : ℕ) (bytes : List ℕ) → m ≤ value_from m bytes
+value_grows m [] = omega arith
+value_grows m (byte ∷ bytes) = omega (arith, value_grows (m * 10 + (byte - 48)) bytes)
 
-value_append : (m : ℕ) (bytes : List ℕ) (byte : ℕ) → value_from m (bytes ++ (byte ∷ [])) ≡ value_from m bytes * 10 + (byte - 48)
-unfolding value_from
-value_append m [] byte = refl
-value_append m (b ∷ bs) byte = value_append (m * 10 + (b - 48)) bs byte
+-- the value of digits in two parts
+pub value_parts : (m : ℕ) (bytes more : List ℕ) → value_from m (bytes ++ more) ≡ value_from (value_from m bytes) more
+value_parts m [] more = refl
+value_parts m (byte ∷ bytes) more = value_parts (m * 10 + (byte - 48)) bytes more
+
+pub value_append : (m : ℕ) (bytes : List ℕ) (byte : ℕ) → value_from m (bytes ++ (byte ∷ [])) ≡ value_from m bytes * 10 + (byte - 48)
+value_append m bytes byte = value_parts m bytes (byte ∷ [])
+
+-- one digit more, of some that stand in a row
+pub value_more : (bytes : List ℕ) (i : ℕ) → i < length bytes → value_from 0 (take (i + 1) bytes) ≡ value_from 0 (take i bytes) * 10 + (get_or bytes i 0 - 48)
+value_more bytes i before = rw (add-one i, take-suc bytes i 0 before) (value_append 0 (take i bytes) (get_or bytes i 0))
+
+-- the value of the first digit, alone and with others
+pub value_one : (bytes : List ℕ) → 1 ≤ length bytes → value_from 0 (take 1 bytes) ≡ get_or bytes 0 0 - 48
+value_one [] some = elim some [ ]
+value_one (byte ∷ bytes) some = omega arith
+
+-- some first digits have no larger value than all
+pub value_at_least : (bytes : List ℕ) (i : ℕ) → value_from 0 (take i bytes) ≤ value_from 0 bytes
+value_at_least bytes i =
+    let parts = ap (value_from 0) (sym (take-append-drop i bytes)) ∙ value_parts 0 (take i bytes) (drop i bytes) in
+    rw parts (value_grows (value_from 0 (take i bytes)) (drop i bytes))
+
+-- digits of which some first ones have too large a value have one
+pub value_too_large : (bytes : List ℕ) (i value : ℕ) → i < length bytes → value ≡ value_from 0 (take i bytes)
+    → number_limit ≤ value * 10 + (get_or bytes i 0 - 48) → number_limit ≤ value_from 0 bytes
+value_too_large bytes i value before so_far large = omega (arith, large, so_far, value_more bytes i before, value_at_least bytes (i + 1))
 
 -- a numeral's value is that of its digits
-numeral_value : {bytes : List ℕ} {n : ℕ} → IsNumeral bytes n → n ≡ value_from 0 bytes
-unfolding value_from
+pub numeral_value : {bytes : List ℕ} {n : ℕ} → IsNumeral bytes n → n ≡ value_from 0 bytes
 numeral_value (digit d small) = omega arith
 numeral_value (further {bytes = bytes} {n = n} begun positive d small) = omega (arith, numeral_value begun, value_append 0 bytes (48 + d))
 

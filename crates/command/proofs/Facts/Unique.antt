@@ -1,5 +1,5 @@
 -- Text tells its numbers, and numbers tell their text: a line says one command and no other, and an answer has one text.
-use Rattle.std.specs.Prelude.{◌≡◌, refl, ◌⊎◌, ℕ, ◌+◌, ◌≤◌, length, take, drop, get_or}
+use Rattle.std.specs.Prelude.{◌≡◌, refl, ◌⊎◌, Option, Some, None, ℕ, ◌+◌, ◌≤◌, length, take, drop, get_or}
 use Rattle.std.proofs.Common.{sym, ap, ◌∙◌, inl, inr, lt_irrefl, arith, length-append}
 use Rattle.std.proofs.Math.Logic.{ite}
 use mathlib.Core.List.{List, [], ◌∷◌, ◌++◌, head-eq_of_cons-eq, tail-eq_of_cons-eq, nil≢cons, append_cancel_right}
@@ -14,7 +14,7 @@ use Rattle.command.proofs.Facts.Text.{numeral_unique}
 use Rattle.command.proofs.Facts.Numbers.{ends_last}
 use Rattle.command.proofs.Facts.Fields.{IsFirst, fields_cases, ends_before}
 use Rattle.command.specs.declared.Command.{Command}
-use Rattle.command.specs.declared.Command.TheVariants.{Open, Add, Remove, Round, Malformed}
+use Rattle.command.specs.declared.Command.TheVariants.{Open, Add, Remove, Round}
 
 -- Annex 12.25: one number has one text (and one text one number: `numeral_unique`)
 pub numeral_text : {one other : List ℕ} {m n : ℕ} → IsNumeral one m → IsNumeral other n → m ≡ n → one ≡ other
@@ -103,35 +103,35 @@ command_from letter ns =
     (ite (ℕ_discrete letter letter_D) (Remove (get_or ns 0 0)) Round))
 
 -- What is said by a good line that says a command.
-record IsSaid (line : List ℕ) (c : Command) : Type 0 where
+record IsSaid (line : List ℕ) (c : Option Command) : Type 0 where
   letter : ℕ
   numbers : List ℕ
   good : IsGood letter numbers line
-  command : command_from letter numbers ≡ c
+  command : Some (command_from letter numbers) ≡ c
 
-said : (line : List ℕ) (c : Command) → Says line c → IsSaid line c ⊎ (IsMalformed line × (c ≡ Malformed))
+said : (line : List ℕ) (c : Option Command) → Says line c → IsSaid line c ⊎ (IsMalformed line × (c ≡ None))
 unfolding command_from ℕ_discrete
-said line (Open b f g t) says = inl (record { letter = letter_O; numbers = b ∷ f ∷ g ∷ t ∷ []; good = says; command = refl })
-said line (Add id s p d) says = inl (record { letter = letter_A; numbers = id ∷ s ∷ p ∷ d ∷ []; good = says; command = refl })
-said line (Remove id) says = inl (record { letter = letter_D; numbers = id ∷ []; good = says; command = refl })
-said line Round says = inl (record { letter = letter_R; numbers = []; good = says; command = refl })
-said line Malformed says = inr (says, refl)
+said line (Some (Open b f g t)) says = inl (record { letter = letter_O; numbers = b ∷ f ∷ g ∷ t ∷ []; good = says; command = refl })
+said line (Some (Add id s p d)) says = inl (record { letter = letter_A; numbers = id ∷ s ∷ p ∷ d ∷ []; good = says; command = refl })
+said line (Some (Remove id)) says = inl (record { letter = letter_D; numbers = id ∷ []; good = says; command = refl })
+said line (Some Round) says = inl (record { letter = letter_R; numbers = []; good = says; command = refl })
+said line None says = inr (says, refl)
 
 -- a malformed line says nothing else
-malformed_says_none : (line : List ℕ) → IsMalformed line → (c : Command) → Says line c → c ≡ Malformed
-malformed_says_none line bad (Open b f g t) says = absurd (bad.no_open b f g t says)
-malformed_says_none line bad (Add id s p d) says = absurd (bad.no_add id s p d says)
-malformed_says_none line bad (Remove id) says = absurd (bad.no_remove id says)
-malformed_says_none line bad Round says = absurd (bad.no_round says)
-malformed_says_none line bad Malformed says = refl
+malformed_says_none : (line : List ℕ) → IsMalformed line → (c : Option Command) → Says line c → c ≡ None
+malformed_says_none line bad (Some (Open b f g t)) says = absurd (bad.no_open b f g t says)
+malformed_says_none line bad (Some (Add id s p d)) says = absurd (bad.no_add id s p d says)
+malformed_says_none line bad (Some (Remove id)) says = absurd (bad.no_remove id says)
+malformed_says_none line bad (Some Round) says = absurd (bad.no_round says)
+malformed_says_none line bad None says = refl
 
 -- Annex 12.25: a line says one command and no other, or is malformed and says none
-pub says_one : (line : List ℕ) (c d : Command) → Says line c → Says line d → c ≡ d
+pub says_one : (line : List ℕ) (c d : Option Command) → Says line c → Says line d → c ≡ d
 says_one line c d says says' = go (said line c says) (said line d says')
   where
-    go : IsSaid line c ⊎ (IsMalformed line × (c ≡ Malformed)) → IsSaid line d ⊎ (IsMalformed line × (d ≡ Malformed)) → c ≡ d
+    go : IsSaid line c ⊎ (IsMalformed line × (c ≡ None)) → IsSaid line d ⊎ (IsMalformed line × (d ≡ None)) → c ≡ d
     go (inr (bad, none_said)) other = none_said ∙ sym (malformed_says_none line bad d says')
     go (inl a) (inr (bad, none_said)) = malformed_says_none line bad c says ∙ sym none_said
     go (inl a) (inl b) =
         let same = good_unique a.good b.good in
-        sym a.command ∙ (λ i. command_from (same.0 i) (same.1 i)) ∙ b.command
+        sym a.command ∙ (λ i. Some (command_from (same.0 i) (same.1 i))) ∙ b.command

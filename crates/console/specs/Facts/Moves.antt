@@ -1,30 +1,8 @@
 -- What stands at the front once bytes are moved there.
-use Rattle.std.specs.Prelude.{◌≡◌, List, [], ◌∷◌, ◌++◌, ℕ, suc, ◌+◌, ◌-◌, ◌≤◌, ◌<◌, min, length, take, drop, set, get_or}
-use Rattle.std.proofs.Common.{sym, ap, ◌∙◌, append_assoc, add-one, arith, length-take, length-drop, length-take-le, take_all, drop_at, take-take, take-add, take-suc, drop-cons, get_or-drop, get_or-append-add}
+use Rattle.std.specs.Prelude.{◌≡◌, List, ℕ, ◌+◌, ◌-◌, ◌≤◌, min, length, take, drop}
+use Rattle.std.proofs.Common.{ap, ◌∙◌, arith, length-take, length-take-le, take_all, drop_at, take-take, take-add}
 use Rattle.std.proofs.Math.Decide.{dec_le}
-use Rattle.std.proofs.lemmas.List.{set_at}
 use Rattle.console.specs.Transcript.{most_kept}
-
--- one byte more stands at the front
-pub one_moved : (l m : List ℕ) (from k : ℕ) → from + k < length l → m ≡ take k (drop from l) ++ drop k l
-    → set m k (get_or m (from + k) 0) ≡ take (k + 1) (drop from l) ++ drop (k + 1) l
-one_moved l m from k inside same =
-    let front = take k (drop from l) in
-    let long : length front ≡ k = length-take-le k (drop from l) (omega (arith, length-drop from l)) in
-    let split : m ≡ front ++ (get_or l k 0 ∷ drop (suc k) l) = same ∙ ap (λ (t : List ℕ). front ++ t) (drop-cons l k 0 (omega arith)) in
-    let place : from + k ≡ length front + from = omega (arith, long) in
-    let other_way : k + from ≡ from + k = omega arith in
-    let there : get_or m (from + k) 0 ≡ get_or l (from + k) 0 =
-    ap (λ (t : List ℕ). get_or t (from + k) 0) same
-    ∙ ap (λ (j : ℕ). get_or (front ++ drop k l) j 0) place
-    ∙ get_or-append-add front (drop k l) from 0 ∙ get_or-drop k l from 0 ∙ ap (λ (j : ℕ). get_or l j 0) other_way in
-    ap (λ (x : ℕ). set m k x) there
-    ∙ ap (λ (t : List ℕ). set t k (get_or l (from + k) 0)) split
-    ∙ set_at front (get_or l k 0) (drop (suc k) l) (get_or l (from + k) 0) k long
-    ∙ sym (append_assoc front (get_or l (from + k) 0 ∷ []) (drop (suc k) l))
-    ∙ ap (λ (x : ℕ). (front ++ (x ∷ [])) ++ drop (suc k) l) (sym (get_or-drop from l k 0))
-    ∙ ap (λ (t : List ℕ). t ++ drop (suc k) l) (sym (take-suc (drop from l) k 0 (omega (arith, length-drop from l))))
-    ∙ ap (λ (j : ℕ). take j (drop from l) ++ drop j l) (sym (add-one k))
 
 -- the first of the bytes at hand
 module _ (l : List ℕ) (from have : ℕ) (in_hand : from ≤ have) (within : have ≤ length l) where

@@ -1,8 +1,8 @@
 -- Why each part of the command program keeps what was told.
-use Rattle.std.specs.Prelude.{◌≡◌, refl, Bool, true, false, ◌⊎◌, List, [], ◌++◌, ℕ, ◌+◌, ◌-◌, ◌≤◌, ◌<◌, length, take, drop}
+use Rattle.std.specs.Prelude.{◌≡◌, refl, Option, Some, None, IfSome, ◌⊎◌, List, [], ◌++◌, ℕ, ◌+◌, ◌-◌, ◌≤◌, ◌<◌, length, take, drop}
+use Rattle.std.specs.Option.{unwrap_or}
 use Rattle.std.proofs.Common.{sym, ap, subst, ◌∙◌, inl, inr, append-nil, lt_irrefl, arith, length-take, length-drop, take-append-drop, drop_of_length-le, length-take-le, take_at, take-take}
 use Rattle.std.proofs.Math.Path.{subst⁻¹}
-use Rattle.std.proofs.lemmas.Bool.{false≢true}
 use Rattle.std.proofs.Math.Decide.{ℕ_discrete}
 use Rattle.command.specs.Puts.{room}
 use Rattle.command.specs.Lines.{IsLineEnd}
@@ -19,6 +19,8 @@ use Rattle.console.specs.Session.{CanKeep, CanRefill, delivered, IsTurned}
 use Rattle.console.specs.Needs.{handed_over, IsMoved, IsKept, IsRefilled}
 use Rattle.console.specs.declared.Session.{Session}
 use Rattle.console.specs.declared.Turn.{Turn}
+use Rattle.console.specs.declared.Outcome.{Outcome}
+use Rattle.console.specs.declared.Outcome.TheVariants.{Ended}
 
 -- the bytes that a session has, answered or not
 abbrev had : Session → List ℕ → List ℕ
@@ -114,10 +116,10 @@ module _ {s : Session} {before after : List ℕ} {k : ℕ} (can : CanKeep s befo
 
 -- what a read delivers stands behind what was kept, which it leaves as it is
 module _ {s kept : Session} {before mid : List ℕ} (is : IsKept s before mid kept) (can : CanRefill s before) where
-  module _ (after : List ℕ) (same : had kept after ≡ had kept mid) (wrote got : ℕ) (more ended : Bool)
-      (few : kept.have + got ≤ buffer_places) (at_end : ended ≡ true → got ≡ 0) where
+  module _ (after : List ℕ) (same : had kept after ≡ had kept mid) (wrote got : ℕ) (outcome : Outcome)
+      (few : kept.have + got ≤ buffer_places) (at_end : outcome ≡ Ended → got ≡ 0) where
     abbrev next : Turn
-    next = record { session = record { reached = kept.reached; have = kept.have + got }; wrote = wrote; got = got; more = more; ended = ended }
+    next = record { session = record { reached = kept.reached; have = kept.have + got }; wrote = wrote; got = got; outcome = outcome }
 
     behind : at_hand next.session after ≡ at_hand kept mid ++ delivered next after
     behind =
@@ -152,6 +154,11 @@ module _ {s kept : Session} {before mid : List ℕ} (is : IsKept s before mid ke
 pub within_part : (l : List ℕ) (from n got : ℕ) → got ≤ length (take n (drop from l)) → from ≤ buffer_places → length l ≡ buffer_places
     → from + got ≤ buffer_places
 within_part l from n got few inside long = omega (arith, length-take n (drop from l), length-drop from l)
+
+-- a read that may have failed delivers no more than it has room for
+pub got_few : (read : Option ℕ) (room : ℕ) → IfSome read (λ n. n ≤ room) → unwrap_or read 0 ≤ room
+got_few (Some n) room few = few
+got_few None room few = omega arith
 
 module _ {s answered session : Session} {before out : List ℕ} (is : HasAnswered s before out answered) (over : session ≡ handed_over answered) where
   -- where there is room for another answer, no whole line is left
@@ -188,9 +195,9 @@ module _ {s answered session : Session} {before out : List ℕ} (is : HasAnswere
       }
 
   -- a turn that has not
-  pub stayed_turned : (more : Bool)
-      → IsTurned s before before out (record { session = session; wrote = answered.reached.end; got = 0; more = more; ended = false })
-  stayed_turned more =
+  pub stayed_turned : (outcome : Outcome) → (outcome ≡ Ended → ⊥)
+      → IsTurned s before before out (record { session = session; wrote = answered.reached.end; got = 0; outcome = outcome })
+  stayed_turned outcome goes_on =
       record {
         told = λ read written told.
             subst⁻¹ (λ (l : List ℕ). HasTold l (written ++ take answered.reached.end out) session before)
@@ -199,7 +206,7 @@ module _ {s answered session : Session} {before out : List ℕ} (is : HasAnswere
         bounds = subst⁻¹ InBounds over (record { from = is.bounds.from; have = is.bounds.have });
         empty = ap (λ (x : Session). x.reached.end) over;
         number = few_lines;
-        at_end = λ no_end. absurd (false≢true no_end);
+        at_end = λ ended. absurd (goes_on ended);
       }
     where
       nothing : drop (session.have - 0) (take session.have before) ≡ []

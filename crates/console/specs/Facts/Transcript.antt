@@ -1,5 +1,5 @@
 -- How what was told grows: by a line answered, by bytes read; and what may be cut from a line.
-use Rattle.std.specs.Prelude.{◌≡◌, refl, ◌⊎◌, List, [], ◌∷◌, ◌++◌, ℕ, ◌+◌, ◌≤◌, ◌<◌, length, take, drop}
+use Rattle.std.specs.Prelude.{◌≡◌, refl, ◌⊎◌, Option, Some, None, List, [], ◌∷◌, ◌++◌, ℕ, ◌+◌, ◌≤◌, ◌<◌, length, take, drop}
 use Rattle.std.proofs.Common.{sym, ap, subst, ◌∙◌, inl, inr, append-nil, append_assoc, lt_irrefl, arith, length-append, take-append-drop, length-take-le, take_all, take_at}
 use Rattle.std.proofs.Math.Decide.{dec_lt}
 use Rattle.std.proofs.lemmas.List.{take-append-le}
@@ -11,7 +11,7 @@ use Rattle.command.specs.Step.{IsStep, IsAnswer}
 use Rattle.command.specs.Runs.{part_of, Reaches}
 use Rattle.command.specs.Runs.Reaches.{none as reached_none, one_more}
 use Rattle.command.specs.declared.Command.{Command}
-use Rattle.command.specs.declared.Command.TheVariants.{Open, Add, Remove, Round, Malformed}
+use Rattle.command.specs.declared.Command.TheVariants.{Open, Add, Remove, Round}
 use Rattle.command.specs.declared.lines.Reached.{Reached}
 use Rattle.command.specs.declared.step.Step.{Step}
 use Rattle.console.specs.Transcript.{most_kept, HasNoEnd, IsCut, Told, ToldAll}
@@ -19,12 +19,12 @@ use Rattle.console.specs.Transcript.Transcript.{next}
 use Rattle.console.specs.Facts.LineEnds.{no_end_first, no_end_second, no_end_both, before_the_end, split_line, line_no_end}
 
 -- two lines of 64 bytes or more say the same: nothing
-both_long : (line other : List ℕ) (c : Command) → most_kept ≤ length line → most_kept ≤ length other → Says line c → Says other c
-both_long line other (Open b f g t) long too says = absurd (lt_irrefl 0 (omega (arith, says.short)))
-both_long line other (Add id s p d) long too says = absurd (lt_irrefl 0 (omega (arith, says.short)))
-both_long line other (Remove id) long too says = absurd (lt_irrefl 0 (omega (arith, says.short)))
-both_long line other Round long too says = absurd (lt_irrefl 0 (omega (arith, says.short)))
-both_long line other Malformed long too says = too_long other (omega arith)
+both_long : (line other : List ℕ) (c : Option Command) → most_kept ≤ length line → most_kept ≤ length other → Says line c → Says other c
+both_long line other (Some (Open b f g t)) long too says = absurd (lt_irrefl 0 (omega (arith, says.short)))
+both_long line other (Some (Add id s p d)) long too says = absurd (lt_irrefl 0 (omega (arith, says.short)))
+both_long line other (Some (Remove id)) long too says = absurd (lt_irrefl 0 (omega (arith, says.short)))
+both_long line other (Some Round) long too says = absurd (lt_irrefl 0 (omega (arith, says.short)))
+both_long line other None long too says = too_long other (omega arith)
 
 long_answer : {p after : Planner} {n : ℕ} {line other answer : List ℕ} → most_kept ≤ length line → most_kept ≤ length other
     → IsAnswer p n line answer after → IsAnswer p n other answer after

@@ -1,6 +1,6 @@
 -- Values and bytes determine one another.
 use Rattle.std.specs.Prelude.{◌≡◌, refl, List, [], ◌∷◌, ℕ, zero, suc, ◌+◌, ◌*◌, ◌/◌, ◌%◌, ◌<◌, length, get_or}
-use Rattle.std.proofs.Common.{sym, ap, ◌∙◌, lt_irrefl, arith}
+use Rattle.std.proofs.Common.{sym, ap, ◌∙◌, arith}
 use Rattle.packet_bytes.specs.Parts.{ids_in, values_in}
 use Rattle.packet_bytes.specs.Layout.{Values, id_bytes, bytes_of}
 
@@ -38,8 +38,8 @@ AreBytes p = (i : ℕ) → get_or p i 0 < 256
 pairs_kept : (n : ℕ) (p : List ℕ) → AreBytes p → length p ≡ 2 * n → id_bytes (ids_in p) ≡ p
 unfolding ids_in id_bytes
 pairs_kept n [] small even = refl
-pairs_kept n (a ∷ []) small even = absurd (lt_irrefl 0 (omega (arith, even)))
-pairs_kept zero (a ∷ b ∷ rest) small even = absurd (lt_irrefl 0 (omega (arith, even)))
+pairs_kept n (a ∷ []) small even = absurd (omega arith)
+pairs_kept zero (a ∷ b ∷ rest) small even = absurd (omega arith)
 pairs_kept (suc n) (a ∷ b ∷ rest) small even =
     let low = small 1 in
     let first : (a * 256 + b) / 256 ≡ a = omega arith in
@@ -51,8 +51,8 @@ pairs_kept (suc n) (a ∷ b ∷ rest) small even =
 pub length_ids_in : (n : ℕ) (p : List ℕ) → length p ≡ 2 * n → length (ids_in p) ≡ n
 unfolding ids_in
 length_ids_in n [] even = omega (arith, even)
-length_ids_in n (a ∷ []) even = absurd (lt_irrefl 0 (omega (arith, even)))
-length_ids_in zero (a ∷ b ∷ rest) even = absurd (lt_irrefl 0 (omega (arith, even)))
+length_ids_in n (a ∷ []) even = absurd (omega arith)
+length_ids_in zero (a ∷ b ∷ rest) even = absurd (omega arith)
 length_ids_in (suc n) (a ∷ b ∷ rest) even = let fewer : length rest ≡ 2 * n = omega (arith, even) in ap suc (length_ids_in n rest fewer)
 
 -- bytes as long as byte 5 says are those of the values in them
@@ -70,9 +70,9 @@ bytes_kept (a ∷ b ∷ c ∷ d ∷ e ∷ n ∷ rest) small long =
     let count = length_ids_in n rest many in
     let ids = pairs_kept n rest (λ k. small (suc (suc (suc (suc (suc (suc k))))))) many in
     λ i. a_is i ∷ b_is i ∷ c_is i ∷ d_is i ∷ e ∷ count i ∷ ids i
-bytes_kept (a ∷ b ∷ c ∷ d ∷ e ∷ []) small long = absurd (omega (arith, long))
-bytes_kept (a ∷ b ∷ c ∷ d ∷ []) small long = absurd (omega (arith, long))
-bytes_kept (a ∷ b ∷ c ∷ []) small long = absurd (omega (arith, long))
-bytes_kept (a ∷ b ∷ []) small long = absurd (omega (arith, long))
-bytes_kept (a ∷ []) small long = absurd (omega (arith, long))
-bytes_kept [] small long = absurd (omega (arith, long))
+bytes_kept (a ∷ b ∷ c ∷ d ∷ e ∷ []) small long = absurd (omega arith)
+bytes_kept (a ∷ b ∷ c ∷ d ∷ []) small long = absurd (omega arith)
+bytes_kept (a ∷ b ∷ c ∷ []) small long = absurd (omega arith)
+bytes_kept (a ∷ b ∷ []) small long = absurd (omega arith)
+bytes_kept (a ∷ []) small long = absurd (omega arith)
+bytes_kept [] small long = absurd (omega arith)

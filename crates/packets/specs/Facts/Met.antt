@@ -79,7 +79,3 @@ passed_over ids j x inside decided other as_before =
     subst⁻¹ (λ (b : Bool). Decides b (Mem x (take (j + 1) ids))) as_before
     (same_as (λ m. subst⁻¹ (Mem x) (next_taken ids j inside) (mem-append_left (get_or ids j 0 ∷ []) m))
     (λ m. earlier (take j ids) (get_or ids j 0) x (λ same. other (sym same)) (subst (Mem x) (next_taken ids j inside) m)) decided)
-
--- once j has come to place i, what was found tells whether x stands before place i
-pub all_looked_at : (ids : List ℕ) (i j x : ℕ) {found : Bool} → j ≡ i → Decides found (Mem x (take j ids)) → Decides found (Mem x (take i ids))
-all_looked_at ids i j x {found} all = subst (λ (k : ℕ). Decides found (Mem x (take k ids))) all

@@ -1,10 +1,12 @@
 -- Stream ids in front and messages behind them: when numbers are good, told place by place.
-use Rattle.std.specs.Prelude.{◌≡◌, Bool, ℕ, suc, ◌+◌, ◌-◌, ◌≤◌, ◌<◌, length, get_or, take, drop}
+use Rattle.std.specs.Prelude.{◌≡◌, ◌↔◌, IsTrue, EachIndex, slice_index, Bool, ℕ, suc, ◌+◌, ◌-◌, ◌≤◌, ◌<◌, length, get_or, take, drop}
 use Rattle.std.proofs.Common.{sym, ap, subst, ◌∙◌, arith, take-append-drop, length-drop, take_all}
 use Rattle.std.proofs.Math.Path.{subst⁻¹}
 use mathlib.Core.List.{List, [], ◌∷◌, ◌++◌, append-nil, Mem, Nodup, Nodup-append}
-use mathlib.Core.List.{mem-append_right, mem-cons_self, not-mem-nil}
-use Rattle.std.proofs.Math.Decide.{dec_le}
+use mathlib.Core.List.{Mem-prop, eq-or-mem_of_mem-cons, mem-append_right, mem-cons_self, not-mem-nil}
+use Rattle.std.proofs.Math.Logic.Or
+use Rattle.std.proofs.Math.Decide.{dec_le, ℕ_discrete}
+use Rattle.std.proofs.lemmas.Bool.{false≢true}
 use Rattle.std.proofs.Math.ListN.{get_or-append}
 use Rattle.std.proofs.Math.Seq.{split_at, drop-append-add}
 use Rattle.basics.specs.Decides.{Decides}
@@ -16,7 +18,6 @@ use Rattle.messages.specs.Numbers.{stream_ids, message_numbers}
 use Rattle.messages.specs.Waiting.{IsMessage}
 use Rattle.messages.specs.Facts.Numbers.{stream_ids_append, in_stream_ids, stream_ids_of, message_numbers_of}
 use Rattle.packets.specs.Good.{IdsGood, AreMessages, NumbersGood}
-use Rattle.packets.specs.Facts.Met.{all_with, next_taken}
 
 -- good stream ids with messages behind them are good
 pub numbers_good : {ids ms : List ℕ} → IdsGood ids → AreMessages ms → NumbersGood (ids ++ ms)
@@ -34,10 +35,22 @@ no_messages n m = absurd (not-mem-nil m)
 pub ids_alone : (ns : List ℕ) → IdsGood ns → NumbersGood ns
 ids_alone ns good = subst NumbersGood (append-nil ns) (numbers_good good no_messages)
 
--- messages up to a place, and one at it
-pub one_more_message : (ns : List ℕ) (i : ℕ) → i < length ns → AreMessages (take i ns) → IsMessage (get_or ns i 0) → AreMessages (take (i + 1) ns)
-one_more_message ns i inside each here =
-    subst⁻¹ AreMessages (next_taken ns i inside) (all_with (λ (n : ℕ). IsMessage n) (take i ns) (get_or ns i 0) each here)
+-- what holds of the number at each place holds of each number
+each_place : (P : ℕ → Type 0) (ns : List ℕ) → ((k : ℕ) → k < length ns → P (get_or ns k 0)) → (n : ℕ) → Mem n ns → P n
+each_place P [] each n m = absurd (not-mem-nil m)
+each_place P (x ∷ ns) each n m = go (ℕ_discrete n x) (each_place P ns (λ k low. each (suc k) (omega arith)) n)
+  where
+    go : Dec (n ≡ x) → (Mem n ns → P n) → P n
+    go (yes same) later = subst⁻¹ P same (each 0 (omega arith))
+    go (no other) later = later (Or.elim Mem-prop (eq-or-mem_of_mem-cons m) (λ same. absurd (other same)) (λ behind. behind))
+
+-- a test of the number at each place decides whether all are messages
+pub all_tested : (ns : List ℕ) {all : Bool} → IsTrue all ↔ EachIndex ns (λ k. IsMessage (slice_index ns k)) → Decides all (AreMessages ns)
+all_tested ns tested =
+    record {
+      if_true = λ e. each_place (λ (n : ℕ). IsMessage n) ns (tested.0 e);
+      if_false = λ e each. false≢true (sym e ∙ tested.1 (λ k low. each _ (get_or_mem ns k 0 low)));
+    }
 
 module _ (ns : List ℕ) (i : ℕ) (inside : i < length ns) where
   -- no id among good numbers stands at an earlier place too

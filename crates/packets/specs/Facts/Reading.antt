@@ -20,12 +20,6 @@ use Rattle.packets.specs.Reading.{HasLength, wrong_length, bad_value, read_refus
 rest_taken : (p : List ℕ) → take (length p - 6) (drop 6 p) ≡ drop 6 p
 rest_taken p = take_all (length p - 6) (drop 6 p) (simp length-drop (omega arith))
 
--- as many ids as byte 5 says
-pub as_many_ids : (p : List ℕ) (n : ℕ) (ids : List ℕ) → length p ≡ 6 + 2 * n → ids ≡ ids_in (take (length p - 6) (drop 6 p)) → n ≡ length ids
-as_many_ids p n ids long is =
-    let pairs : length (drop 6 p) ≡ 2 * n = simp length-drop (omega arith) in
-    sym (ap (length {A = ℕ}) (is ∙ ap ids_in (rest_taken p)) ∙ length_ids_in n (drop 6 p) pairs)
-
 -- bytes as long as n says, with n above the largest B, hold no good values
 pub too_many_ids : (p : List ℕ) (n : ℕ) → length p ≡ 6 + 2 * n → most_slots < n → IsGood (values_in p) → ⊥
 too_many_ids p n long many good =
@@ -63,8 +57,8 @@ module _ (p : List ℕ) where
     where
       passes : (IsGoodPacket p → ⊥) → ⊥
       passes =
-          let then : answer_of (bad_value p ∷ []) ≡ 0 = (answer_zero (wrong_length p) (bad_value p ∷ []) (λ e. lt_irrefl 0 (omega (arith, e))) zero).1 in
-          (answer_zero (bad_value p) [] (λ e. lt_irrefl 0 (omega (arith, e))) then).0
+          let then : answer_of (bad_value p ∷ []) ≡ 0 = (answer_zero (wrong_length p) (bad_value p ∷ []) (λ e. omega arith) zero).1 in
+          (answer_zero (bad_value p) [] (λ e. omega arith) then).0
 
       go : Dec (IsGoodPacket p) → IsGoodPacket p
       go (yes is) = is

@@ -2,7 +2,6 @@
 use Rattle.std.specs.Prelude.{◌≡◌, refl, ℕ, ◌+◌, ◌-◌, ◌*◌, ◌≤◌, ◌<◌, length, take, drop}
 use Rattle.std.proofs.Common.{sym, ap, ◌∙◌, arith, take_all, drop-drop}
 use mathlib.Core.List.{List, [], ◌∷◌, ◌++◌, append-nil}
-use Rattle.std.proofs.Math.Nat.{lt_irrefl}
 use Rattle.std.proofs.Math.Seq.{drop-length}
 use borrow.Rule.Slice.PartMut.{put_mid, mid_of}
 use Rattle.basics.specs.Refusals.{answer_of}
@@ -20,20 +19,20 @@ module _ (v : Values) (before : List ℕ) where
 
   -- a write of values that are not good keeps its promise with answer 27 and the buffer as it was
   pub refuses_27 : (IsGood v → ⊥) → IsWritten v before before 27
-  refuses_27 bad = left_as_it_was 27 (sym (answer_first (bad_values v) (short_buffer v before ∷ []) bad)) (λ e. lt_irrefl 0 (omega (arith, e)))
+  refuses_27 bad = left_as_it_was 27 (sym (answer_first (bad_values v) (short_buffer v before ∷ []) bad)) (λ e. omega arith)
 
   -- a write of good values into fewer than 6 + 2×n bytes keeps its promise with answer 28 and the buffer as it was
   pub refuses_28 : IsGood v → length before < 6 + 2 * length v.ids → IsWritten v before before 28
   refuses_28 good short =
       let passes = answer_later (bad_values v) (short_buffer v before ∷ []) (λ bad. bad good) in
       let refused = answer_first (short_buffer v before) [] (omega (arith, length_bytes v)) in
-      left_as_it_was 28 (sym (passes ∙ refused)) (λ e. lt_irrefl 0 (omega (arith, e)))
+      left_as_it_was 28 (sym (passes ∙ refused)) (λ e. omega arith)
 
   -- a write of good values into a buffer no shorter than the packet is not refused
   pub good_is_written : IsGood v → length (bytes_of v) ≤ length before → answer_of (write_refusals v before) ≡ 0
   unfolding answer_of
   good_is_written good room =
-      answer_later (bad_values v) (short_buffer v before ∷ []) (λ bad. bad good) ∙ answer_later (short_buffer v before) [] (λ short. lt_irrefl 0 (omega arith))
+      answer_later (bad_values v) (short_buffer v before ∷ []) (λ bad. bad good) ∙ answer_later (short_buffer v before) [] (λ short. omega arith)
 
   -- values whose write is not refused are good
   pub written_is_good : answer_of (write_refusals v before) ≡ 0 → IsGood v
@@ -41,7 +40,7 @@ module _ (v : Values) (before : List ℕ) where
     where
       go : Dec (IsGood v) → IsGood v
       go (yes good) = good
-      go (no bad) = absurd ((answer_zero (bad_values v) (short_buffer v before ∷ []) (λ e. lt_irrefl 0 (omega (arith, e))) zero).0 bad)
+      go (no bad) = absurd ((answer_zero (bad_values v) (short_buffer v before ∷ []) (λ e. omega arith) zero).0 bad)
 
   -- a write of good values into 6 + 2×n bytes or more keeps its promise with answer 0, the packet in front and the later bytes as they were
   pub writes : (after : List ℕ) → IsGood v → 6 + 2 * length v.ids ≤ length before → after ≡ bytes_of v ++ drop (length (bytes_of v)) before

@@ -1,5 +1,5 @@
 -- Why one pass over the places decides whether they hold just the rows that they are compared with.
-use Rattle.std.specs.Prelude.{◌≡◌, refl, List, ℕ, ◌+◌, ◌≤◌, ◌<◌, get_or, set, length, eqb}
+use Rattle.std.specs.Prelude.{◌≡◌, Bool, true, false, List, ℕ, ◌+◌, ◌≤◌, ◌<◌, get_or, set, length, eqb}
 use Rattle.std.proofs.Common.{sym, ap, subst, ◌∙◌, lt_irrefl, arith, get_or-set_same, get_or-set_other}
 use Rattle.std.proofs.Math.Logic.{∥∥₁_elim}
 use mathlib.Core.HLevel.{⊥_prop}
@@ -10,8 +10,8 @@ use Rattle.basics.specs.Facts.Decides.{same_as, equal_to}
 use Rattle.basics.specs.Places.{IsPlaceAmong}
 use Rattle.basics.specs.Facts.Places.{place_found}
 use Rattle.basics.specs.Limits.{places}
-use Rattle.places.specs.Facts.Marks.{marked, marked_none, marked_few, all_marked, marked_all, marked_more}
-use Rattle.places.specs.Filing.{CanFile, IsRow, PlacesFile}
+use Rattle.places.specs.Facts.Marks.{mark, marks_of, marked, marked_none, marked_few, all_marked, marked_all, marked_more}
+use Rattle.places.specs.Filing.{CanFile, IsRow, IsNoRow, PlacesFile}
 use Rattle.places.specs.Changes.{IsSet}
 use Rattle.places.specs.Order.{Entry}
 use Rattle.places.specs.Entries.{row_of}
@@ -136,34 +136,32 @@ module _ {filed rows : ℕ → Entry} {n : ℕ} where
 
 -- an entry that does not stand at its id's place among the rows is none of them
 pub no_row_at : {ids keys releases : List ℕ} {n : ℕ} (e : Entry) (r : ℕ) → CanFile ids keys releases n
-    → IsPlaceAmong ids e.id r → (r < n → row_of ids keys releases r ≡ e → ⊥) → IsRow ids keys releases n e places
-no_row_at {ids} {keys} {releases} {n} e r can place differs =
-    record {
-      found = λ other. absurd (other refl);
-      absent = λ _ i below is.
-          let same : r ≡ i = place_found n i can.few can.ascend below (ap (λ (a : Entry). a.id) is) place in
-          differs (omega arith) (ap (row_of ids keys releases) same ∙ is);
-    }
+    → IsPlaceAmong ids e.id r → (r < n → row_of ids keys releases r ≡ e → ⊥) → IsNoRow ids keys releases n e
+no_row_at {ids} {keys} {releases} {n} e r can place differs i below is =
+    let same : r ≡ i = place_found n i can.few can.ascend below (ap (λ (a : Entry). a.id) is) place in
+    differs (omega arith) (ap (row_of ids keys releases) same ∙ is)
 
--- place x holds an id, and r says which of the rows it holds
-module _ {filed : ℕ → Entry} {ids keys releases : List ℕ} {n x m r : ℕ} (met : List ℕ) (can : CanFile ids keys releases n)
-    (to : FiledTo filed (row_of ids keys releases) n x m (λ k. get_or met k 0)) (inside : x < places) (some : 1 ≤ (filed x).id)
-    (row : IsRow ids keys releases n (filed x) r) where
-  -- none of them
-  pub row_absent : r ≡ places → PlacesFile filed (row_of ids keys releases) n → ⊥
-  row_absent none file = ∥∥₁_elim (file.listed x (inside, some)) ⊥_prop (λ w. row.absent none w.0 w.1 w.2)
+-- place x holds an id
+module _ {filed : ℕ → Entry} {ids keys releases : List ℕ} {n x m : ℕ} (met : List Bool) (can : CanFile ids keys releases n)
+    (to : FiledTo filed (row_of ids keys releases) n x m (marks_of met)) (inside : x < places) (some : 1 ≤ (filed x).id) where
+  -- what stands there is none of the rows
+  pub row_absent : IsNoRow ids keys releases n (filed x) → PlacesFile filed (row_of ids keys releases) n → ⊥
+  row_absent none file = ∥∥₁_elim (file.listed x (inside, some)) ⊥_prop (λ w. none w.0 w.1 w.2)
 
-  -- one that an earlier place holds
-  pub row_again : (r ≡ places → ⊥) → (get_or met r 0 ≡ 0 → ⊥) → PlacesFile filed (row_of ids keys releases) n → ⊥
-  row_again found again file =
-      let this = row.found found in
-      let w = to.placed r this.0 (omega (arith, to.marks r, again)) in
-      lt_irrefl x (omega (arith, w.1, file.once w.0 x (omega (arith, w.1), w.2) (inside, some) (sym w.3 ∙ ap (λ (a : Entry). a.id) this.1)))
+  -- r says which of the rows it is
+  module _ {r : ℕ} (row : IsRow ids keys releases n (filed x) r) where
+    -- one that an earlier place holds
+    pub row_again : get_or met r false ≡ true → PlacesFile filed (row_of ids keys releases) n → ⊥
+    row_again again file =
+        let w = to.placed r row.within (ap mark again) in
+        lt_irrefl x (omega (arith, w.1, file.once w.0 x (omega (arith, w.1), w.2) (inside, some) (sym w.3 ∙ ap (λ (a : Entry). a.id) row.is)))
 
-  -- a new one, which is marked
-  pub row_new : (r ≡ places → ⊥) → get_or met r 0 ≡ 0 → length met ≡ places
-      → FiledTo filed (row_of ids keys releases) n (x + 1) (m + 1) (λ k. get_or (set met r 1) k 0)
-  row_new found new long =
-      let this = row.found found in
-      filed_more can.ascend to this.0 some this.1 new
-      (record { at = get_or-set_same met r 1 0 (omega (arith, this.0, can.few)); elsewhere = λ k other. get_or-set_other met r k 1 0 other })
+    -- a new one, which is marked
+    pub row_new : get_or met r false ≡ false → length met ≡ places
+        → FiledTo filed (row_of ids keys releases) n (x + 1) (m + 1) (marks_of (set met r true))
+    row_new new long =
+        filed_more can.ascend to row.within some row.is (ap mark new)
+        (record {
+          at = ap mark (get_or-set_same met r true false (omega (arith, row.within, can.few)));
+          elsewhere = λ k other. ap mark (get_or-set_other met r k true false other);
+        })

@@ -1,5 +1,5 @@
--- How many of the first places are marked, where a mark is 1 and no mark 0.
-use Rattle.std.specs.Prelude.{◌≡◌, get_or, replicate}
+-- How many of the first places are marked, where a mark counts 1 and no mark 0.
+use Rattle.std.specs.Prelude.{◌≡◌, Bool, true, false, List, get_or, replicate}
 use Rattle.std.proofs.Math.Path.{refl, ap}
 use Prim.Native.Nat.{ℕ, zero, suc, ◌+◌, ◌≤◌, ◌<◌}
 use Rattle.std.proofs.Math.Nat.{lt_irrefl}
@@ -11,8 +11,17 @@ unfoldable pub marked : (ℕ → ℕ) → ℕ → ℕ
 marked met zero = 0
 marked met (suc n) = met n + marked met n
 
--- an array of zeros has no mark
-pub no_marks : (n i : ℕ) → ◌≡◌ {A = ℕ} (get_or (replicate n 0) i 0) 0
+-- A mark as a number.
+abbrev pub mark : Bool → ℕ
+mark true = 1
+mark false = 0
+
+-- The marks of an array.
+abbrev pub marks_of : List Bool → ℕ → ℕ
+marks_of met i = mark (get_or met i false)
+
+-- an array that is false throughout has no mark
+pub no_marks : (n i : ℕ) → marks_of (replicate n false) i ≡ 0
 no_marks zero i = refl
 no_marks (suc n) zero = refl
 no_marks (suc n) (suc i) = no_marks n i

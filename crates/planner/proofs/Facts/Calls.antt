@@ -134,7 +134,7 @@ module _ (h : Content) (empty : h.table ≡ []) where
   unfolding future
   empty_start sound =
       let gap = sound.in_range.setting.gap.0 in
-      (nothing_due (slots_of h) (now_of h) (cap_of h) (streams_in h) (omega arith) (omega arith) (λ t. rw (empty, none_seen) refl)).lazy (omega arith)
+      (nothing_due (slots_of h) (now_of h) (cap_of h) (streams_in h) (omega arith) (omega arith) (λ t. rw (empty, none_seen) refl)).lazy
 
   -- .. and the slots with nothing
   pub empty_slots : (s : ℕ) → ids_at h s ≡ []

@@ -1,5 +1,5 @@
 -- The walk of the queue, entry by entry: what has been taken so far, and that in the end it is the round's slots.
-use Rattle.std.specs.Prelude.{◌≡◌, refl, ℕ, ◌+◌, ◌≤◌, ◌<◌, length, take, get_or, set, replicate}
+use Rattle.std.specs.Prelude.{◌≡◌, refl, ℕ, ◌+◌, ◌≤◌, ◌<◌, length, take, get_or, set}
 use Rattle.std.proofs.Common.{sym, ap, subst, ◌∙◌, lt_irrefl, add-one, arith, length-set, length-append, take-suc-set, get_or-set_same, get_or-set_other}
 use Rattle.std.proofs.Math.Path.{subst⁻¹}
 use Rattle.std.proofs.Math.Logic.{∥∥₁_elim}
@@ -31,7 +31,8 @@ use Rattle.planner.specs.Round.{ids_at}
 use Rattle.planner.proofs.Facts.SlotWalk.{released_ids, slots_ids, one_more_taken, one_more_skipped, enough, all_seen}
 use Rattle.planner.proofs.Facts.Files.{files_length, files_filed}
 use Rattle.planner.proofs.Facts.ServedTable.{due_after_start}
-use Rattle.planner.specs.Needs.{CanChoose, IsChosen, IsFoundAt, AreFound}
+use Rattle.state.specs.Needs.{StartsAt}
+use Rattle.planner.specs.Needs.{IsChosen, IsFoundAt, AreFound, none_chosen, with_chosen}
 use Rattle.state.specs.declared.Planner.{Planner}
 use Rattle.planner.specs.declared.slots.Chosen.{Chosen}
 
@@ -49,20 +50,7 @@ pub record Visited (queue : Queue) (table : Table) (b s i : ℕ) (chosen : Chose
   pub long_rows : length chosen.rows ≡ 64
   pub long_places : length chosen.placed.places ≡ 64
 
--- nothing chosen yet
-abbrev pub none_chosen : Chosen
-none_chosen = record { placed = record { ids = replicate 64 0; places = replicate 64 0 }; rows = replicate 64 0; n = 0 }
-
--- an id chosen, with its row and its place
-abbrev pub with_chosen : Chosen → ℕ → ℕ → ℕ → Chosen
-with_chosen chosen id row place =
-    record {
-      placed = record { ids = set chosen.placed.ids chosen.n id; places = set chosen.placed.places chosen.n place };
-      rows = set chosen.rows chosen.n row;
-      n = chosen.n + 1;
-    }
-
-module _ {p : Planner} {s : ℕ} (can : CanChoose p s) (long : length p.table.streams ≡ 64) where
+module _ {p : Planner} {s : ℕ} (can : StartsAt p s) (long : length p.table.streams ≡ 64) where
   abbrev es : List Entry
   es = entries p.queue
 
@@ -164,7 +152,7 @@ module _ {p : Planner} {s : ℕ} (can : CanChoose p s) (long : length p.table.st
             ap (λ (e : Entry). e.release) w.2 ∙ ap (λ (r : Record). r.release) one)
 
         abbrev taken : Chosen
-        taken = with_chosen chosen id row place
+        taken = with_chosen chosen id place row
 
         -- the k-th one taken is found by its row and its place
         abbrev IsTakenAt : ℕ → Type 0
@@ -172,7 +160,7 @@ module _ {p : Planner} {s : ℕ} (can : CanChoose p s) (long : length p.table.st
 
         -- while B are not chosen yet, an entry whose record is released by s is chosen, beside its row and its place
         pub one_more_taken_in : (chosen.n ≡ slots_of (content p) → ⊥) → (record_at p.table row).release ≤ s
-            → Visited p.queue p.table (slots_of (content p)) s (i + 1) (with_chosen chosen id row place)
+            → Visited p.queue p.table (slots_of (content p)) s (i + 1) (with_chosen chosen id place row)
         one_more_taken_in not_full early =
             let inside = still_room not_full in
             let more_ids = one_more_taken s es i (triple 0 0 0) more_entries (rw same_release early) in

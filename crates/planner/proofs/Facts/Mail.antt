@@ -1,19 +1,17 @@
 -- The messages that wait: what a sound planner holds stays sound with one more, and with the first ones gone.
-use Rattle.std.specs.Prelude.{◌≡◌, refl, ℕ, ◌≤◌, ◌<◌, length, take, drop}
-use Rattle.std.proofs.Common.{subst, lt_irrefl, arith, length-append, length-drop, take-append-drop}
+use Rattle.std.specs.Prelude.{◌≡◌, refl, ℕ, ◌<◌, length, take, drop}
+use Rattle.std.proofs.Common.{subst, lt_irrefl, arith, length-append, length-drop, length-take, take-append-drop}
 use Rattle.std.proofs.Math.Path.{subst⁻¹}
 use Rattle.std.proofs.Math.Logic.Or
-use Rattle.std.proofs.Math.Logic.Dec.{and as Dec-and, not-not as Dec-not_not}
+use Rattle.std.proofs.Math.Logic.Dec.{not-not as Dec-not_not}
 use mathlib.Core.HLevel.{×_prop}
 use mathlib.Core.List.{List, Mem, [], ◌∷◌, ◌++◌, mem-append, mem-append_right, eq-or-mem_of_mem-cons, not-mem-nil}
 use Rattle.std.proofs.Math.Bridge.{le_prop}
-use Rattle.std.proofs.Math.Decide.{ℕ_discrete}
 use Rattle.basics.specs.Limits.{most_waiting}
 use Rattle.basics.specs.Refusals.{answer_of}
 use Rattle.basics.specs.Facts.Refusals.{answer_zero}
-use Rattle.messages.specs.Waiting.{IsMessage, decide_message, waiting_of}
+use Rattle.messages.specs.Waiting.{IsMessage, waiting_of}
 use Rattle.messages.specs.Needs.{HasWaiting}
-use Rattle.messages.specs.Facts.Waiting.{waiting_length}
 use Rattle.messages.specs.declared.Waiting.{Waiting}
 use Rattle.state.specs.Content.{Content, content, with_waiting}
 use Rattle.state.specs.Sound.{MailInRange, ContentSound, Sound}
@@ -70,37 +68,18 @@ waits_with {h} {p} is {ns} {w} has mail =
           };
     }
 
--- where send refuses nothing, the planner is sound ..
+-- where send refuses nothing, the planner is sound
 pub sent_is_sound : (p : Planner) (n : ℕ) → answer_of (send_refusals p n) ≡ 0 → Sound p
 sent_is_sound p n none =
     (Dec-not_not (decide_sound p)).0
     (answer_zero (unsound p) (no_message n (content p) ∷ mail_full (content p) ∷ []) (λ e. lt_irrefl 0 (omega (arith, e))) none).0
 
--- .. messages are on, the number is one of them and a place is free
-pub send_passed : (p : Planner) (n : ℕ) → length p.waiting.numbers ≡ most_waiting → answer_of (send_refusals p n) ≡ 0 → CanSend p n
-send_passed p n long none =
-    let h = content p in
-    let is_sound = answer_zero (unsound p) (no_message n h ∷ mail_full h ∷ []) (λ e. lt_irrefl 0 (omega (arith, e))) none in
-    let is_message = answer_zero (no_message n h) (mail_full h ∷ []) (λ e. lt_irrefl 0 (omega (arith, e))) is_sound.1 in
-    let has_place = answer_zero (mail_full h) [] (λ e. lt_irrefl 0 (omega (arith, e))) is_message.1 in
-    let sound = (Dec-not_not (decide_sound p)).0 is_sound.0 in
-    let both = (Dec-not_not (Dec-and (decide_message n) (ℕ_discrete p.setting.messages 1))).0 is_message.0 in
-    record {
-      sound = sound;
-      message = both.0;
-      on = both.1;
-      place_free = below has_place.0 (waiting_length p.waiting long sound.waiting_count);
-    }
-  where
-    below : (most_waiting ≤ length (waiting_of p.waiting) → ⊥) → length (waiting_of p.waiting) ≡ p.waiting.count → p.waiting.count < most_waiting
-    below few same = omega (arith, same, few)
-
 -- the planner in which the number waits too
-pub posted_with : {p : Planner} {n : ℕ} → length p.waiting.numbers ≡ most_waiting → CanSend p n → {w : Waiting}
+pub posted_with : {p : Planner} {n : ℕ} → CanSend p n → {w : Waiting}
     → HasWaiting (waiting_of p.waiting ++ (n ∷ [])) w → IsSoundWith (posted (content p) n) (with_list p w)
-posted_with {p} {n} long can has =
+posted_with {p} {n} can has =
     let mail = can.sound.content_sound.in_range.mail in
     waits_with (record { holds = refl; sound = can.sound }) has
     (subst⁻¹ (λ (on : ℕ). MailInRange on (waiting_of p.waiting ++ (n ∷ []))) can.on
     (one_more (subst (λ (on : ℕ). MailInRange on (waiting_of p.waiting)) can.on mail)
-    (omega (arith, waiting_length p.waiting long can.sound.waiting_count, can.place_free)) can.message))
+    (omega (arith, length-take p.waiting.count p.waiting.numbers, can.place_free)) can.message))

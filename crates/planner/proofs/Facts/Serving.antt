@@ -28,7 +28,7 @@ use Rattle.planner.proofs.Facts.ServedTable.{serve_all, serve_next, serve_all_sl
 use Rattle.planner.proofs.Facts.ServedTable.{bounds_served}
 use Rattle.planner.proofs.Facts.Changes.{is_sound_with}
 use Rattle.planner.proofs.Facts.Mail.{first_gone, waits_with}
-use Rattle.planner.specs.Needs.{CanServeAll, IsFoundAt, IsLeft, served_planner, table_of}
+use Rattle.planner.specs.Needs.{CanServeAll, IsFoundAt, IsLeft, served_planner, stored, table_of}
 use Rattle.messages.specs.declared.Waiting.{Waiting}
 use Rattle.state.specs.declared.Planner.{Planner}
 use Rattle.planner.specs.declared.slots.Chosen.{Chosen}
@@ -41,6 +41,10 @@ first_passed h s k = serve_all (take k (ids_at h s)) h.table
 abbrev pub Has : List Record → (id period : ℕ) → Type 0
 Has rs id period = (x : Record) × Mem x rs × (x.id ≡ id) × (x.period ≡ period)
 
+-- the planner with its table's rows rewritten
+abbrev pub with_streams : Planner → List Record → Planner
+with_streams p streams = stored p p.last (table_of p streams) p.queue
+
 -- after k of the chosen: the table has just those k served, every id is still in its row, and the periods of the k are noted
 pub record Serving (p : Planner) (s k : ℕ) (streams : List Record) (periods : List ℕ) : Type 0 where
   pub served : HasRecords (first_passed (content p) s k) (table_of p streams)
@@ -49,22 +53,26 @@ pub record Serving (p : Planner) (s k : ℕ) (streams : List Record) (periods : 
   pub long : length streams ≡ 64
   pub long_periods : length periods ≡ 64
 
+-- after as many turns as there are, all have had theirs
+pub all_turns : {p : Planner} {s k n : ℕ} {streams : List Record} {periods : List ℕ} → Serving p s k streams periods → k ≡ n → Serving p s n streams periods
+all_turns {p} {s} {streams = streams} {periods = periods} serving all = subst (λ (k : ℕ). Serving p s k streams periods) all serving
+
 module _ {p : Planner} {s : ℕ} {chosen : Chosen} (can : CanServeAll p s chosen) where
   abbrev h : Content
   h = content p
 
   abbrev sound : ContentSound h
-  sound = can.can_choose.sound.content_sound
+  sound = can.at_start.sound.content_sound
 
   abbrev lazy : IsStart h s
-  lazy = can.can_choose.start
+  lazy = can.at_start.start
 
   -- before the first of the chosen the table is as it was, and no period is noted
   pub none_served : length p.table.streams ≡ 64 → {periods : List ℕ} → length periods ≡ 64 → Serving p s 0 p.table.streams periods
   unfolding serve_all
   none_served long long_periods =
       record {
-        served = record { records = refl; count = can.can_choose.sound.count };
+        served = record { records = refl; count = can.at_start.sound.count };
         numbers = λ j below. refl;
         noted = λ j below. absurd (lt_irrefl 0 (omega arith));
         long = long;
@@ -106,11 +114,11 @@ module _ {p : Planner} {s : ℕ} {chosen : Chosen} (can : CanServeAll p s chosen
     at = can.are_found k more
 
     holds : table.count ≤ length streams
-    holds = omega (arith, serving.long, can.can_choose.sound.count)
+    holds = omega (arith, serving.long, can.at_start.sound.count)
 
     -- the row of each of the chosen is below 64
     pub row_below : row < places
-    row_below = omega (arith, at.in_table, can.can_choose.sound.count)
+    row_below = omega (arith, at.in_table, can.at_start.sound.count)
 
     ascending : Ascending (records_of table)
     ascending = subst⁻¹ Ascending serving.served.records (served_ascending h sound s lazy k)
@@ -184,7 +192,7 @@ module _ {p : Planner} {s : ℕ} {chosen : Chosen} (can : CanServeAll p s chosen
     -- after k moves the entries file the table with k served
     files_moved_to : (k : ℕ) → k ≤ chosen.n → Files (moved_to k) (first_passed h s k)
     unfolding moved_all serve_all
-    files_moved_to zero within_n = can.can_choose.sound.files
+    files_moved_to zero within_n = can.at_start.sound.files
     files_moved_to (suc k) within_n =
         let more : k < chosen.n = omega arith in
         let (x, m, number, period) = serving.noted k more in
@@ -197,7 +205,7 @@ module _ {p : Planner} {s : ℕ} {chosen : Chosen} (can : CanServeAll p s chosen
     pub can_move_all : CanMoveAll p.queue chosen.placed periods chosen.n
     can_move_all =
         record {
-          sound = can.can_choose.sound.queue_sound;
+          sound = can.at_start.sound.queue_sound;
           few = chosen_below;
           placed_there = λ k more. (can.are_found k more).in_queue;
           bounds = λ k more.
@@ -211,7 +219,7 @@ module _ {p : Planner} {s : ℕ} {chosen : Chosen} (can : CanServeAll p s chosen
         → IsSoundWith (left_at h s) (served_planner p s left streams queue)
     all_served has is_left =
         waits_with
-        (is_sound_with p can.can_choose.sound.waiting_count s (record { records = serving.served.records ∙ done; count = serving.served.count })
+        (is_sound_with p can.at_start.sound.waiting_count s (record { records = serving.served.records ∙ done; count = serving.served.count })
         (rounded_sound h sound s lazy can.by_last) has (subst (Files (moved_to chosen.n)) done (files_moved_to chosen.n (omega arith))))
         is_left (first_gone sound.in_range.mail (free_at h s))
       where
@@ -219,3 +227,15 @@ module _ {p : Planner} {s : ℕ} {chosen : Chosen} (can : CanServeAll p s chosen
         done =
             ap (λ (ids : List ℕ). serve_all ids h.table) (take_all chosen.n (ids_at h s) (omega (arith, can.is_chosen.n)))
             ∙ serve_all_slots h sound s lazy
+
+    module _ {q : Planner} (kept : q ≡ with_streams p streams) where
+      -- all that, of the planner in which they were served in place
+      pub can_move_in_place : CanMoveAll q.queue chosen.placed periods chosen.n
+      can_move_in_place = subst⁻¹ (λ (r : Planner). CanMoveAll r.queue chosen.placed periods chosen.n) kept can_move_all
+
+      pub served_in_place : {queue : Queue} → HasEntries queue (moved_all chosen.placed.ids periods chosen.n (entries q.queue))
+          → {left : Waiting} → IsLeft h s left
+          → IsSoundWith (left_at h s) (record { setting = q.setting; last = s; waiting = left; table = q.table; queue = queue })
+      served_in_place {queue} has {left} is_left =
+          subst⁻¹ (λ (r : Planner). IsSoundWith (left_at h s) (record { setting = r.setting; last = s; waiting = left; table = r.table; queue = queue })) kept
+          (all_served (subst (λ (r : Planner). HasEntries queue (moved_all chosen.placed.ids periods chosen.n (entries r.queue))) kept has) is_left)

@@ -1,7 +1,5 @@
-use mathlib.Core.Path.{refl}
-use native.Mathlib.Nat.{lt_irrefl}
-use native.Mathlib.Omega.{arith}
-use lib.ListN.{get_or-replicate}
+use Rattle.std.proofs.Common.{refl, lt_irrefl, arith}
+use Rattle.std.proofs.lemmas.List.{get_or-replicate}
 use Rattle.basics.specs.Limits.{places}
 use Rattle.queue.specs.Layout.Heads.{all_alone}
 use Rattle.queue.proofs.empty.Goals as goal
@@ -9,8 +7,6 @@ use Rattle.queue.proofs.empty.Goals as goal
 pub loop-x-init : goal.loop-x-init
 loop-x-init c =
     record {
-      from = omega arith;
-      within = omega arith;
       size = refl;
       free = λ i below. get_or-replicate 544 i 0 0 (omega arith);
       alone = λ j low high. absurd (lt_irrefl places (omega (arith, low, high)));

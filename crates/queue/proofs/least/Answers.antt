@@ -1,9 +1,9 @@
--- `queue::least` meets its contract: links not sound are refused with 5, and the search does the rest.
-use mathlib.Core.Path.{sym}
-use Rattle.queue.specs.Layout.{entries}
+-- `queue::least` meets its contract: all entries come after key 0, release 0 and id 0.
+use Rattle.std.proofs.Common.{ap, ◌∙◌}
+use Rattle.queue.specs.Calls.{first_of}
 use Rattle.queue.specs.Layout.Decide.{decide_sound}
-use Rattle.queue.specs.Layout.First.{unsound_find}
+use Rattle.queue.specs.Layout.First.{all_after_zero}
 use Rattle.queue.proofs.least.Goals as goal
 
-pub returns-then-not-is_sound : goal.returns-then-not-is_sound
-returns-then-not-is_sound c = sym (unsound_find (decide_sound c.args.q) (entries c.args.q) (c.is_sound.ensures.if_false c.if-not-is_sound.true))
+pub returns : goal.returns
+returns c = c.next.ensures ∙ ap (first_of (decide_sound c.args.q)) (all_after_zero c.args.q)

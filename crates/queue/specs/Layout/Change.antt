@@ -1,5 +1,5 @@
 -- The changes of a sound queue, from the places and the position that the code finds.
-use Rattle.std.specs.Prelude.{◌≡◌, refl, ℕ, ◌+◌, ◌≤◌, ◌<◌, length, set}
+use Rattle.std.specs.Prelude.{◌≡◌, refl, ℕ, ◌+◌, ◌≤◌, length, set}
 use Rattle.std.proofs.Common.{sym, ap, ◌∙◌, inl, lt_irrefl, length-set, get_or-set_same, set-set}
 use Rattle.std.proofs.Math.Path.{subst, subst⁻¹}
 use Rattle.std.proofs.Math.Logic.Or
@@ -8,7 +8,7 @@ use Rattle.std.proofs.Math.Logic.Dec.{not as Dec-not}
 use mathlib.Core.HLevel.{⊥_prop, ×_prop, hedberg}
 use mathlib.Core.List.{List, [], ◌∷◌, Mem, mem-filter, not-mem-nil, mem-cons_self, mem-cons_of_mem, eq-or-mem_of_mem-cons}
 use Rattle.std.proofs.Math.Bridge.{le_prop}
-use Rattle.std.proofs.Math.Decide.{dec_lt, ℕ_discrete}
+use Rattle.std.proofs.Math.Decide.{ℕ_discrete}
 use native.Mathlib.Omega.{arith}
 use Rattle.std.proofs.lemmas.List.{set-get_or}
 use Rattle.basics.specs.Limits.{largest_key, places}
@@ -16,7 +16,7 @@ use Rattle.places.specs.Order.{Entry}
 use Rattle.places.specs.Entries.{put, without, filed_as, moved_on, Filed, InBounds}
 use Rattle.places.specs.Facts.Collected.{of_collected, in_collected, collected_full}
 use Rattle.places.specs.Facts.Entries.{put_new, entry_set}
-use Rattle.places.specs.Changes.{IsPlaceOf}
+use Rattle.places.specs.Changes.{IsPlaceOf, IsNowhere}
 use Rattle.queue.specs.Layout.{id_at, key_at, release_at, entry_at, next_at, prev_at, Holds, entries, Sound}
 use Rattle.queue.specs.Layout.Ranks.{rank, rank_at, rank_holds}
 use Rattle.queue.specs.Calls.{moved, HasEntries}
@@ -30,27 +30,29 @@ pub place_filed : (q : Queue) (i : ℕ) → Holds q i → Filed (id_at q i) (ent
 unfolding entries
 place_filed q i holds = ∣ (entry_at q i, in_collected (entry_at q) places i holds.0 holds.1, refl) ∣₁
 
--- a filed id is 1 or more and has a place
+-- a filed id is 1 or more, and where it stands it is held
 pub filed_place : (q : Queue) (id x : ℕ) → Filed id (entries q) → IsPlaceOf q.ids id x → Holds q x × (id_at q x ≡ id)
 unfolding entries
 filed_place q id x filed place =
     ∥∥₁_elim filed (×_prop (×_prop le_prop le_prop) (hedberg ℕ_discrete (id_at q x) id))
     (λ w. ∥∥₁_elim (of_collected (entry_at q) places w.0 w.1) (×_prop (×_prop le_prop le_prop) (hedberg ℕ_discrete (id_at q x) id))
-    (λ v. let there : id_at q v.0 ≡ id = sym (ap (λ (e : Entry). e.id) v.3) ∙ w.2 in
-    go v.0 v.1 (rw there at v.2) there (dec_lt x places)))
-  where
-    go : (i : ℕ) → i < places → 1 ≤ id → id_at q i ≡ id → Dec (x < places) → Holds q x × (id_at q x ≡ id)
-    go i below some there (yes inside) = let e = place.found inside in ((inside, rw e some), e)
-    go i below some there (no outside) = absurd (place.absent (omega (arith, place.within)) i below there)
+    (λ v. let some : 1 ≤ id = rw (sym w.2 ∙ ap (λ (e : Entry). e.id) v.3) v.2 in ((place.within, rw place.found some), place.found)))
+
+-- a filed id stands somewhere
+pub filed_somewhere : (q : Queue) (id : ℕ) → Filed id (entries q) → IsNowhere q.ids id → ⊥
+unfolding entries
+filed_somewhere q id filed none =
+    ∥∥₁_elim filed ⊥_prop
+    (λ w. ∥∥₁_elim (of_collected (entry_at q) places w.0 w.1) ⊥_prop
+    (λ v. none v.0 v.1 (sym (ap (λ (e : Entry). e.id) v.3) ∙ w.2)))
 
 -- an entry within the bounds whose id is new has a new rank
-new_id_rank : (q : Queue) → Sound q → (e : Entry) (r : ℕ) → IsNew q e.id
-    → e.release ≤ e.key → e.key ≤ largest_key → r ≡ rank e.release e.id → IsNewRank q r
-new_id_rank q sound e r new before within is =
+new_id_rank : (q : Queue) → Sound q → (e : Entry) → IsNew q e.id → e.release ≤ e.key → e.key ≤ largest_key → IsNewRank q (rank e.release e.id)
+new_id_rank q sound e new before within =
     record {
-      some = rw is (rank_holds e.release e.id new.some);
-      small = rw is (rank_small e.release e.key e.id before within new.small);
-      unused = λ i below same. new_rank q sound e.release e.id new.some new.small new.unused i below (same ∙ is);
+      some = rank_holds e.release e.id new.some;
+      small = rank_small e.release e.key e.id before within new.small;
+      unused = new_rank q sound e.release e.id new.some new.small new.unused;
     }
 
 module _ (q : Queue) (e : Entry) (can : CanInsert q e) where
@@ -63,41 +65,35 @@ module _ (q : Queue) (e : Entry) (can : CanInsert q e) where
       }
 
   -- with fewer than 64 entries some place is free
-  insert_place : (x : ℕ) → IsPlaceOf q.ids 0 x → x < places
+  pub insert_somewhere : IsNowhere q.ids 0 → ⊥
   unfolding entries
-  insert_place x place = go (dec_lt x places)
+  insert_somewhere none =
+      lt_irrefl places (omega (arith, collected_full (entry_at q) places (λ i below. positive (id_at q i) (none i below)), can.room))
     where
-      go : Dec (x < places) → x < places
-      go (yes inside) = inside
-      go (no outside) =
-          let none = place.absent (omega (arith, place.within)) in
-          absurd (lt_irrefl places (omega (arith, collected_full (entry_at q) places (λ i below. positive (id_at q i) (none i below)), can.room)))
-        where
-          positive : (n : ℕ) → (n ≡ 0 → ⊥) → 1 ≤ n
-          positive n other = omega arith
+      positive : (n : ℕ) → (n ≡ 0 → ⊥) → 1 ≤ n
+      positive n other = omega arith
 
   -- its rank is new too
-  pub insert_rank : (r : ℕ) → r ≡ rank e.release e.id → IsNewRank q r
-  insert_rank r = new_id_rank q can.sound e r insert_new (can.bounds.released e (put_new e (entries q))) (can.bounds.keys e (put_new e (entries q)))
+  pub insert_rank : IsNewRank q (rank e.release e.id)
+  insert_rank = new_id_rank q can.sound e insert_new (can.bounds.released e (put_new e (entries q))) (can.bounds.keys e (put_new e (entries q)))
 
-  -- the free place found, the position and the node before it are in range, so the entry can be put there
-  pub insert_can_put : (x n r : ℕ) → IsPlaceOf q.ids 0 x → IsPosition q e.key r n → CanPut q x n
-  insert_can_put x n r place position =
-      let l = rank_links q can.sound n position.node in
-      (insert_place x place, node_below (rank_at q) n position.node, node_below (rank_at q) (prev_at q n) l.prev_is_node)
+  module _ (x n : ℕ) (place : IsPlaceOf q.ids 0 x) (position : IsPosition q e.key (rank e.release e.id) n) where
+    -- the free place found, the position and the node before it are in range, so the entry can be put there
+    pub insert_can_put : CanPut q x n
+    insert_can_put =
+        let l = rank_links q can.sound n position.node in
+        (place.within, node_below (rank_at q) n position.node, node_below (rank_at q) (prev_at q n) l.prev_is_node)
 
-  -- put there, before the position of its rank, the entry leaves the queue sound and is put where it belongs among the others
-  pub insert_entries : HasShape q → (x n r : ℕ) → IsPlaceOf q.ids 0 x → r ≡ rank e.release e.id
-      → IsPosition q e.key r n → HasEntries (put_before q x e n) (put e (entries q))
-  insert_entries shape x n r place is position =
-      let inside = insert_place x place in
-      let free = place.found inside in
-      let new = insert_new in
-      let at = subst (λ (k : ℕ). IsPosition q e.key k n) is position in
-      record {
-        sound = put_sound q can.sound shape x e n inside free can.some can.small new.unused at can.bounds;
-        content = put_entries q can.sound shape x e n inside free can.some can.small new.unused at;
-      }
+    -- put there, before the position of its rank, the entry leaves the queue sound and is put where it belongs among the others
+    pub insert_entries : HasShape q → HasEntries (put_before q x e n) (put e (entries q))
+    insert_entries shape =
+        let inside = place.within in
+        let free = place.found in
+        let new = insert_new in
+        record {
+          sound = put_sound q can.sound shape x e n inside free can.some can.small new.unused position can.bounds;
+          content = put_entries q can.sound shape x e n inside free can.some can.small new.unused position;
+        }
 
 module _ (q : Queue) (x : ℕ) (sound : Sound q) (holds : Holds q x) where
   -- a place that holds an entry has neighbours in range, so the entry can be taken out
@@ -131,15 +127,12 @@ filed_as_place q sound id x there has =
     (λ w. w.3 ∙ ap (entry_at q) (sound_once q sound w.0 x w.1 there.0 w.2 (sym (ap (λ (e : Entry). e.id) w.3) ∙ (same ∙ sym has)))))
 
 -- what has been found of an id at its place is asked there of a move
-pub move_at : (q : Queue) (id amount x : ℕ) → HasShape q → CanMove q id amount → IsPlaceOf q.ids id x → CanMoveAt q x amount
-move_at q id amount x shape can place =
+pub move_at : (q : Queue) (id amount x : ℕ) → CanMove q id amount → IsPlaceOf q.ids id x → CanMoveAt q x amount
+move_at q id amount x can place =
     let here = filed_place q id x can.filed place in
-    record { shape = shape; holds = here.0; can = rw here.1 can }
+    record { holds = here.0; can = rw here.1 can }
 
 module _ (q : Queue) (amount x : ℕ) (can_at : CanMoveAt q x amount) where
-  abbrev shape : HasShape q
-  shape = can_at.shape
-
   abbrev id : ℕ
   id = id_at q x
 
@@ -155,9 +148,6 @@ module _ (q : Queue) (amount x : ℕ) (can_at : CanMoveAt q x amount) where
   move_as : filed_as id (entries q) ≡ entry_at q x
   move_as = filed_as_place q sound id x can_at.holds refl
 
-  rest : HasEntries left (without id (entries q))
-  rest = delete_entries q x sound can_at.holds shape
-
   its_bounds : InBounds (put later (without id (entries q)))
   its_bounds = subst (λ (e : Entry). InBounds (put (moved_on amount e) (without id (entries q)))) move_as can_at.can.bounds
 
@@ -165,70 +155,58 @@ module _ (q : Queue) (amount x : ℕ) (can_at : CanMoveAt q x amount) where
   pub move_fits : (key_at q x + amount ≤ largest_key) × (release_at q x + amount ≤ key_at q x + amount)
   move_fits = (its_bounds.keys later (put_new later (without id (entries q))), its_bounds.released later (put_new later (without id (entries q))))
 
-  -- with the id taken out of its place it can be filed there again
-  pub move_new : Sound left × IsNew left id
-  unfolding entries without
-  move_new = (
-    rest.sound,
-    record {
-      some = can_at.holds.1;
-      small = sound.ids_in_range x can_at.holds;
-      unused = λ i below same. ∥∥₁_elim (place_filed left i (below, rw same can_at.holds.1)) ⊥_prop
-          (λ w. let among_rest = subst (λ (l : List Entry). Mem w.0 l) rest.content w.1 in
-          ((mem-filter (λ (e : Entry). Dec-not (ℕ_discrete e.id id)) {l = entries q}).0 among_rest).1 (w.2 ∙ same));
-    },
-  )
+  module _ (shape : HasShape q) where
+    rest : HasEntries left (without id (entries q))
+    rest = delete_entries q x sound can_at.holds shape
 
-  -- once it is taken out, the rank that it has after the move is new
-  pub move_rank : (r : ℕ) → r ≡ rank (release_at q x + amount) id → IsNewRank left r
-  move_rank r = new_id_rank left rest.sound later r move_new.1 move_fits.1 move_fits.0
+    move_new : IsNew left id
+    unfolding entries without
+    move_new =
+        record {
+          some = can_at.holds.1;
+          small = sound.ids_in_range x can_at.holds;
+          unused = λ i below same. ∥∥₁_elim (place_filed left i (below, rw same can_at.holds.1)) ⊥_prop
+              (λ w. let among_rest = subst (λ (l : List Entry). Mem w.0 l) rest.content w.1 in
+              ((mem-filter (λ (e : Entry). Dec-not (ℕ_discrete e.id id)) {l = entries q}).0 among_rest).1 (w.2 ∙ same));
+        }
 
-  -- its own place, the position of the moved key and the node before that are in range, so it can be put there
-  pub move_can_put : (n r : ℕ) → IsPosition left (key_at q x + amount) r n → CanPut left x n
-  move_can_put n r position =
-      let l = rank_links left rest.sound n position.node in
-      (can_at.holds.0, node_below (rank_at left) n position.node, node_below (rank_at left) (prev_at left n) l.prev_is_node)
+    -- with the id taken out of its place the queue is sound, and the rank that it has after the move is new
+    pub move_rank : Sound left × IsNewRank left (rank later.release id)
+    move_rank = (rest.sound, new_id_rank left rest.sound later move_new move_fits.1 move_fits.0)
 
-  -- taken out and put in again at its own place, before the position of its new rank, the id is moved
-  pub moved_at : (n k : ℕ) → k ≡ rank (release_at q x + amount) id → IsPosition left (key_at q x + amount) k n
-      → (r : Queue) → r ≡ put_before left x later n → IsMovedAt q x amount r
-  moved_at n k is_rank position r is =
-      let inside = can_at.holds.0 in
-      let new = move_new.1 in
-      let free = get_or-set_same q.ids x 0 0 (omega (arith, shape.ids, inside)) in
-      let at = subst (λ (j : ℕ). IsPosition left (key_at q x + amount) j n) is_rank position in
-      let same : put later (entries left) ≡ moved id amount (entries q) =
-      ap (put later) rest.content ∙ ap (λ (e : Entry). put (moved_on amount e) (without id (entries q))) (sym move_as) in
-      let bounds = subst⁻¹ InBounds same can_at.can.bounds in
-      subst⁻¹ (IsMovedAt q x amount) is
-      (record {
-        shape = put_shape;
-        has_entries = record {
-          sound = put_sound left rest.sound left_shape x later n inside free new.some new.small new.unused at bounds;
-          content = put_entries left rest.sound left_shape x later n inside free new.some new.small new.unused at ∙ same;
-        };
-        places = set-set q.ids x 0 id ∙ set-get_or q.ids x 0;
-      })
-    where
-      long : (l : List ℕ) (i a b : ℕ) → length (set (set l i a) x b) ≡ length l
-      long l i a b = length-set (set l i a) x b ∙ length-set l i a
+    module _ (n : ℕ) (position : IsPosition left later.key (rank later.release id) n) where
+      -- its own place, the position of the moved key and the node before that are in range, so it can be put there
+      pub move_can_put : CanPut left x n
+      move_can_put =
+          let l = rank_links left rest.sound n position.node in
+          (can_at.holds.0, node_below (rank_at left) n position.node, node_below (rank_at left) (prev_at left n) l.prev_is_node)
 
-      left_shape : HasShape left
-      left_shape =
+      -- taken out and put in again at its own place, before the position of its new rank, the id is moved
+      pub moved_at : IsMovedAt q x amount (put_before left x later n)
+      moved_at =
+          let inside = can_at.holds.0 in
+          let new = move_new in
+          let free = get_or-set_same q.ids x 0 0 (omega (arith, shape.ids, inside)) in
+          let same : put later (entries left) ≡ moved id amount (entries q) =
+          ap (put later) rest.content ∙ ap (λ (e : Entry). put (moved_on amount e) (without id (entries q))) (sym move_as) in
+          let bounds = subst⁻¹ InBounds same can_at.can.bounds in
           record {
-            ids = length-set q.ids x 0 ∙ shape.ids;
-            keys = length-set q.keys x 0 ∙ shape.keys;
-            releases = length-set q.releases x 0 ∙ shape.releases;
-            next = long q.next (prev_at q x) (next_at q x) 0 ∙ shape.next;
-            prev = long q.prev (next_at q x) (prev_at q x) 0 ∙ shape.prev;
+            has_entries = record {
+              sound = put_sound left rest.sound left_shape x later n inside free new.some new.small new.unused position bounds;
+              content = put_entries left rest.sound left_shape x later n inside free new.some new.small new.unused position ∙ same;
+            };
+            places = set-set q.ids x 0 id ∙ set-get_or q.ids x 0;
           }
+        where
+          long : (l : List ℕ) (i a b : ℕ) → length (set (set l i a) x b) ≡ length l
+          long l i a b = length-set (set l i a) x b ∙ length-set l i a
 
-      put_shape : HasShape (put_before left x later n)
-      put_shape =
-          record {
-            ids = length-set left.ids x id ∙ left_shape.ids;
-            keys = length-set left.keys x later.key ∙ left_shape.keys;
-            releases = length-set left.releases x later.release ∙ left_shape.releases;
-            next = long left.next (prev_at left n) x n ∙ left_shape.next;
-            prev = long left.prev n x (prev_at left n) ∙ left_shape.prev;
-          }
+          left_shape : HasShape left
+          left_shape =
+              record {
+                ids = length-set q.ids x 0 ∙ shape.ids;
+                keys = length-set q.keys x 0 ∙ shape.keys;
+                releases = length-set q.releases x 0 ∙ shape.releases;
+                next = long q.next (prev_at q x) (next_at q x) 0 ∙ shape.next;
+                prev = long q.prev (next_at q x) (prev_at q x) 0 ∙ shape.prev;
+              }

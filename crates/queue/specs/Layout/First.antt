@@ -1,5 +1,5 @@
 -- The first entry of a list in order, from the place that the search finds.
-use Rattle.std.specs.Prelude.{◌≡◌, refl, ℕ, ◌<◌}
+use Rattle.std.specs.Prelude.{◌≡◌, refl, ℕ}
 use Rattle.std.proofs.Common.{sym, ap, ◌∙◌, arith}
 use Rattle.std.proofs.Math.Path.{subst, subst⁻¹}
 use Rattle.std.proofs.Math.Logic.Or
@@ -16,7 +16,7 @@ use Rattle.places.specs.Facts.Entries.{InOrder, entry_set, before_prop}
 use Rattle.queue.specs.Layout.{id_at, key_at, release_at, entry_at, Holds, entries, Sound}
 use Rattle.queue.specs.Calls.{first_of, refused_find}
 use Rattle.queue.specs.Layout.SoundRanks.{sound_once}
-use Rattle.queue.specs.Linking.{IsFirstAfter}
+use Rattle.queue.specs.Linking.{IsFirstAfter, IsNoneAfter}
 use Rattle.queue.specs.declared.Queue.{Queue}
 use Rattle.queue.specs.declared.Found.{Found}
 
@@ -52,7 +52,7 @@ unfolding first_of
 unsound_find (no unsound) es not_sound = refl
 unsound_find (yes sound) es not_sound = absurd (not_sound sound)
 
-module _ (q : Queue) (sound : Sound q) (point : Entry) (x : ℕ) (is : IsFirstAfter q point x) (d : Dec (Sound q)) where
+module _ (q : Queue) (sound : Sound q) (point : Entry) (d : Dec (Sound q)) where
   of_after : (a : Entry) → Mem a (after point (entries q)) → ∥ ((i : ℕ) × Holds q i × Before point (entry_at q i) × (a ≡ entry_at q i)) ∥₁
   unfolding after entries
   of_after a m =
@@ -61,19 +61,19 @@ module _ (q : Queue) (sound : Sound q) (point : Entry) (x : ℕ) (is : IsFirstAf
       (λ v. ∣ (v.0, (v.1, v.2), subst (λ (e : Entry). Before point e) v.3 w.1, v.3) ∣₁)
 
   -- where the search ends at a place, the first entry after the point is the one there, found with answer 0 ..
-  pub after_found : x < places → first_of d (after point (entries q)) ≡ record { answer = 0; key = key_at q x; release = release_at q x; id = id_at q x }
+  pub after_found : (x : ℕ) → IsFirstAfter q point x
+      → first_of d (after point (entries q)) ≡ record { answer = 0; key = key_at q x; release = release_at q x; id = id_at q x }
   unfolding after entries
-  after_found inside =
-      let here = is.found inside in
+  after_found x is =
       let in_order = collected_in_order (entry_at q) (sound_once q sound) places (omega arith) in
       first_is (after point (entries q)) (Pairwise.filter (λ (e : Entry). before point e) in_order) (entry_at q x)
-      ((mem-filter (λ (e : Entry). before point e)).1 (in_collected (entry_at q) places x here.0.0 here.0.1, here.1))
+      ((mem-filter (λ (e : Entry). before point e)).1 (in_collected (entry_at q) places x is.holds.0 is.holds.1, is.after))
       (λ a m earlier. ∥∥₁_elim (of_after a m) ⊥_prop
-      (λ w. is.first inside w.0 w.1 w.2 (subst (λ (e : Entry). Before e (entry_at q x)) w.3 earlier))) d sound
+      (λ w. is.first w.0 w.1 w.2 (subst (λ (e : Entry). Before e (entry_at q x)) w.3 earlier))) d sound
 
-  -- .. and where it ends with 64 there is none: 25 and zeros
-  pub after_none : x ≡ places → first_of d (after point (entries q)) ≡ refused_find 25
-  after_none none = none_is (after point (entries q)) (λ a m. ∥∥₁_elim (of_after a m) ⊥_prop (λ w. is.none none w.0 w.1 w.2)) d sound
+  -- .. and where it ends with none there is none: 25 and zeros
+  pub after_none : IsNoneAfter q point → first_of d (after point (entries q)) ≡ refused_find 25
+  after_none none = none_is (after point (entries q)) (λ a m. ∥∥₁_elim (of_after a m) ⊥_prop (λ w. none w.0 w.1 w.2)) d sound
 
 -- every entry comes after key 0, release 0 and id 0, since ids are 1 or more
 pub all_after_zero : (q : Queue) → after (triple 0 0 0) (entries q) ≡ entries q
@@ -82,7 +82,3 @@ all_after_zero q =
     (filter-eq_self (λ (e : Entry). before (triple 0 0 0) e) {l = entries q}).1
     (λ a m. ∥∥₁_elim (of_collected (entry_at q) places a m) (before_prop (triple 0 0 0) a)
     (λ w. subst⁻¹ (Before (triple 0 0 0)) w.3 (then_zero (key_at q w.0) (then_zero (release_at q w.0) w.2))))
-
--- a search that does not end with 64 ends at a place
-pub found_inside : {q : Queue} {point : Entry} {x : ℕ} → IsFirstAfter q point x → (x ≡ places → ⊥) → x < places
-found_inside is some = omega (arith, is.within)

@@ -1,5 +1,5 @@
 -- The entry that follows a node: along its bucket's list, or first in a later bucket.
-use Rattle.std.specs.Prelude.{◌≡◌, refl, ℕ, ◌+◌, ◌-◌, ◌≤◌, ◌<◌}
+use Rattle.std.specs.Prelude.{◌≡◌, refl, ℕ, ◌+◌, ◌≤◌, ◌<◌}
 use Rattle.std.proofs.Common.{sym, subst, ◌∙◌, inl, inr, lt_irrefl, arith}
 use Rattle.std.proofs.Math.Logic.{∥∥₁_elim}
 use mathlib.Core.HLevel.{×_prop}
@@ -10,7 +10,7 @@ use Rattle.basics.specs.Limits.{buckets, key_span, places}
 use Rattle.places.specs.Order.{Entry, Before}
 use Rattle.queue.specs.Layout.{id_at, key_at, release_at, next_at, entry_at, Holds, IsNode, Sound, bucket_of_key, bucket_after}
 use Rattle.queue.specs.Layout.Ranks.{rank_at, low, rank_less, less_rank, low_place, low_head, high_place, bucket_place}
-use Rattle.queue.specs.Linking.{SearchFrom, IsFirstAfter, StandsAt, point_at}
+use Rattle.queue.specs.Linking.{SearchFrom, IsFirstAfter, IsNoneAfter, StandsAt, point_at}
 use Rattle.queue.specs.Layout.Buckets.{place_rank, AtBucket, AtNode, at_first_bucket, bucket_below, ahead_of_next}
 use Rattle.queue.specs.Layout.Buckets.{at_first_node, at_next_bucket, left_at_node, left_with_none}
 use Rattle.queue.specs.Layout.SoundRanks.{node_place, rank_links}
@@ -37,7 +37,7 @@ module _ (q : Queue) (sound : Sound q) (key n : ℕ) (stands : StandsAt q key n)
   own_key : (i : ℕ) → Holds q i → bucket_of_key (key_at q i) ≡ bucket_of_key key → key_at q i ≡ key
   own_key i holds same = let w = near i holds in omega (arith, same)
 
-  at_own_bucket : AtBucket q key point places (bucket_of_key key) buckets
+  at_own_bucket : AtBucket q key point (bucket_of_key key) 0
   at_own_bucket = at_first_bucket q sound key point from_here (bucket_of_key key) refl
 
   -- what a node stands for is before an entry of the bucket exactly if its rank is
@@ -59,11 +59,10 @@ module _ (q : Queue) (sound : Sound q) (key n : ℕ) (stands : StandsAt q key n)
       (less_rank (release_at q n) (release_at q i) (id_at q n) (id_at q i) here.1 holds.1 (sound.ids_in_range i holds)
       (rw (low_place (rank_at q) n place.0) at less))
 
-  at_own_next : AtNode q point places (bucket_of_key key) (next_at q n)
+  at_own_next : AtNode q point (bucket_of_key key) (next_at q n)
   at_own_next =
       let l = rank_links q sound n stands.node in
       record {
-        unfound = refl;
         node = l.next_is_node;
         in_bucket = l.next_in_bucket ∙ stands.in_bucket;
         ahead = λ i holds after same.
@@ -83,42 +82,41 @@ module _ (q : Queue) (sound : Sound q) (key n : ℕ) (stands : StandsAt q key n)
           let l = rank_links q sound n stands.node in
           let here = node_place q (next_at q n) l.next_is_node below in
           let same = own_key (next_at q n) here (sym (bucket_place (key_at q) (next_at q n) below) ∙ (l.next_in_bucket ∙ stands.in_bucket)) in
-          left_at_node q sound key point from_here places places (bucket_of_key key) buckets (next_at q n) at_own_bucket at_own_next below
+          left_at_node q sound key point from_here (bucket_of_key key) 0 (next_at q n) at_own_bucket at_own_next below
           (inr (sym same, less_node_rank (next_at q n) here stands.node (omega (arith, l.in_order, high_place (rank_at q) (next_at q n) below))))
 
   -- with the list at its end, the later buckets are searched
   pub after_own : (x bucket own : ℕ) → x ≡ next_at q n → places ≤ x → own ≡ bucket_of_key key → bucket ≡ bucket_after own
-      → AtBucket q key point places bucket key_span
+      → AtBucket q key point bucket 1
   after_own x bucket own is end is_own is_bucket =
-      at_next_bucket q sound key point from_here places places (bucket_of_key key) buckets (next_at q n) bucket key_span at_own_bucket at_own_next
-      (omega arith) (omega arith) (is_bucket ∙ omega (arith, is_own)) refl
+      at_next_bucket q sound key point from_here (bucket_of_key key) 0 (next_at q n) bucket at_own_bucket at_own_next
+      (omega arith) (omega arith) (is_bucket ∙ omega (arith, is_own))
 
-  module _ (bucket left : ℕ) (at : AtBucket q key point places bucket left) (some : 0 < left) (first : ℕ) (is : first ≡ next_at q (places + bucket)) where
-    at_first : AtNode q point places bucket first
-    at_first = at_first_node q sound key point from_here places bucket first refl (bucket_below q sound key point from_here places bucket left at) is
+  module _ (bucket turn : ℕ) (at : AtBucket q key point bucket turn) (first : ℕ) (is : first ≡ next_at q (places + bucket)) where
+    at_first : AtNode q point bucket first
+    at_first = at_first_node q sound key point from_here bucket first (bucket_below q sound key point from_here bucket turn at) is
 
     -- a bucket whose list is empty is passed, and the next one searched
-    pub one_bucket_on : (bucket' left' : ℕ) → places ≤ first → bucket' ≡ bucket_after bucket → left' ≡ left - 1 → AtBucket q key point places bucket' left'
-    one_bucket_on bucket' left' end = at_next_bucket q sound key point from_here places places bucket left first bucket' left' at at_first end some
+    pub one_bucket_on : (bucket' : ℕ) → places ≤ first → turn < buckets → bucket' ≡ bucket_after bucket → AtBucket q key point bucket' (turn + 1)
+    one_bucket_on bucket' end more = at_next_bucket q sound key point from_here bucket turn first bucket' at at_first end more
 
     -- the first entry of the bucket searched, if its key is above the one stood at, is what follows
     pub first_follows : first < places → key < key_at q first → IsFirstAfter q point first
-    first_follows inside later = left_at_node q sound key point from_here places places bucket left first at at_first inside (inl later)
+    first_follows inside later = left_at_node q sound key point from_here bucket turn first at at_first inside (inl later)
 
     -- an earlier key there shows that the circle has come round
-    pub come_round : left ≤ key_span → first < places → key_at q first ≤ key → IsFirstAfter q point places
-    come_round began inside earlier =
+    pub come_round : 1 ≤ turn → first < places → key_at q first ≤ key → IsNoneAfter q point
+    come_round began inside earlier i holds after =
         let here = node_place q first at_first.node inside in
         let in_bucket : bucket_of_key (key_at q first) ≡ bucket = sym (bucket_place (key_at q) first inside) ∙ at_first.in_bucket in
         let w = near first here in
-        let its_key : key_at q first + left ≡ key = omega (arith, in_bucket, at.is_bucket, at.within, began, earlier, some) in
-        record {
-          within = omega arith;
-          found = λ below. absurd (lt_irrefl places below);
-          first = λ below. absurd (lt_irrefl places below);
-          none = λ _ i holds after. omega (arith, at.ahead i holds after, sound.span i first holds here, its_key, at.within);
-        }
+        let its_key : key_at q first + buckets ≡ key + turn = omega (arith, in_bucket, at.is_bucket, at.within, began, earlier) in
+        omega (arith, at.ahead i holds after, sound.span i first holds here, its_key, at.within)
+
+  -- the bucket that the walk is at is one of the 480
+  pub following_below : (bucket turn : ℕ) → AtBucket q key point bucket turn → bucket < buckets
+  following_below = bucket_below q sound key point from_here
 
   -- with no bucket left to search, no entry follows
-  pub none_follows : (bucket left : ℕ) → AtBucket q key point places bucket left → left ≤ 0 → IsFirstAfter q point places
-  none_follows bucket left at = left_with_none q sound key point from_here places bucket left at
+  pub none_follows : (bucket turn : ℕ) → AtBucket q key point bucket turn → buckets ≤ turn → IsNoneAfter q point
+  none_follows bucket turn at = left_with_none q sound key point from_here bucket turn at

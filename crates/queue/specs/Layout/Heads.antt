@@ -1,6 +1,6 @@
 -- A queue with nothing filed: its heads are their own neighbours. The loop that links them ends at the empty queue.
-use Rattle.std.specs.Prelude.{◌≡◌, refl, List, [], ℕ, zero, suc, ◌+◌, ◌-◌, ◌≤◌, ◌<◌, length, get_or, set, replicate}
-use Rattle.std.proofs.Common.{sym, ap, ◌∙◌, inl, inr, lt_irrefl, arith, length-set, get_or-set_same, get_or-set_other, get_or-append-add, ext_get_or}
+use Rattle.std.specs.Prelude.{◌≡◌, refl, List, [], ℕ, zero, suc, ◌+◌, ◌-◌, ◌≤◌, ◌<◌, length, get_or, replicate}
+use Rattle.std.proofs.Common.{sym, ap, ◌∙◌, inl, inr, lt_irrefl, arith, get_or-append-add, ext_get_or}
 use Rattle.std.proofs.Math.Path.{subst⁻¹}
 use Rattle.std.proofs.Math.Decide.{dec_lt}
 use Rattle.std.proofs.lemmas.List.{get_or-replicate}
@@ -9,7 +9,6 @@ use Rattle.basics.specs.Limits.{buckets, places}
 use Rattle.places.specs.Facts.Collected.{none_collected}
 use Rattle.queue.specs.Layout.{queue_of, numbers_from, lone_heads, empty_queue}
 use Rattle.queue.specs.Layout.{id_at, key_at, entry_at, next_at, prev_at, Holds, entries, IsNode, bucket_of, Linked}
-use Rattle.queue.specs.Layout.Ranks.{low, high}
 use Rattle.queue.specs.Calls.{HasEntries}
 use Rattle.queue.specs.declared.Queue.{Queue}
 
@@ -44,28 +43,9 @@ lone_heads_alone j from below =
 
 -- The heads from 64 on and below x link to themselves, and the places to 0.
 pub record HeadsAlone (links : List ℕ) (x : ℕ) : Type 0 where
-  pub from : places ≤ x
-  pub within : x ≤ 544
   pub size : length links ≡ 544
   pub free : (i : ℕ) → i < places → get_or links i 0 ≡ 0
   pub alone : (j : ℕ) → places ≤ j → j < x → get_or links j 0 ≡ j
-
--- with head x set to link to itself, one head more does
-pub one_head_more : (links : List ℕ) (x : ℕ) → x < 544 → HeadsAlone links x → HeadsAlone (set links x x) (x + 1)
-one_head_more links x below heads =
-    record {
-      from = omega (arith, heads.from);
-      within = omega arith;
-      size = length-set links x x ∙ heads.size;
-      free = λ i below. get_or-set_other links x i x 0 (λ e. lt_irrefl x (omega (arith, heads.from))) ∙ heads.free i below;
-      alone = λ j low high. go j low high (dec_lt j x);
-    }
-  where
-    go : (j : ℕ) → places ≤ j → j < x + 1 → Dec (j < x) → get_or (set links x x) j 0 ≡ j
-    go j low high (yes less) = get_or-set_other links x j x 0 (λ e. lt_irrefl x (omega arith)) ∙ heads.alone j low less
-    go j low high (no last) =
-        let e : j ≡ x = omega arith in
-        subst⁻¹ (λ (k : ℕ). get_or (set links x x) k 0 ≡ k) e (get_or-set_same links x x 0 (omega (arith, heads.size)))
 
 -- with all heads linked, the queue is the empty one
 pub all_alone : (links : List ℕ) (x : ℕ) → 544 ≤ x → HeadsAlone links x

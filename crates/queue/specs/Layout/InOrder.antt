@@ -16,12 +16,12 @@ use Rattle.places.specs.Facts.Collected.{of_collected, collected_in_order, colle
 use Rattle.queue.specs.Layout.{id_at, key_at, release_at, entry_at, Holds, entries, Sound, bucket_of_key, IsPlacedAt}
 use Rattle.queue.specs.Layout.Ranks.{low_place, low_head, bucket_place, bucket_head}
 use Rattle.queue.specs.Layout.Decide.{decide_sound}
-use Rattle.queue.specs.Layout.First.{first_some, after_found, after_none, found_inside}
+use Rattle.queue.specs.Layout.First.{first_some, after_found, after_none}
 use Rattle.queue.specs.Layout.SoundRanks.{sound_once}
 use Rattle.queue.specs.Layout.Walk.{head_below}
 use Rattle.queue.specs.Layout.Buckets.{place_rank}
 use Rattle.queue.specs.Calls.{first_of}
-use Rattle.queue.specs.Linking.{IsFirstAfter, StandsAt, point_at, IsInOrder}
+use Rattle.queue.specs.Linking.{IsFirstAfter, IsNoneAfter, StandsAt, point_at, IsInOrder}
 use Rattle.queue.specs.declared.Queue.{Queue}
 use Rattle.queue.specs.declared.Placed.{Placed}
 use Rattle.queue.specs.declared.Found.{Found}
@@ -65,8 +65,7 @@ module _ (q : Queue) (sound : Sound q) (count : ℕ) (some : count ≤ length (e
   unfolding entries
   entries_at_most = collected_length (entry_at q) places
 
-  -- at most 64 entries are filed, so those asked for are counted below 64
-  pub in_room : (k : ℕ) → k < count → k < places
+  in_room : (k : ℕ) → k < count → k < places
   in_room k below = omega (arith, some, entries_at_most)
 
   -- it begins at the head of the least key's bucket
@@ -106,28 +105,27 @@ module _ (q : Queue) (sound : Sound q) (count : ℕ) (some : count ≤ length (e
       later i from id (yes less) = inl less
       later i from id (no equal) = inr (omega arith, rw (low_head (release_at q) n head, low_head (id_at q) n head) (then_zero (release_at q i) id))
 
-  module _ (k key n : ℕ) (placed : Placed) (at : Met q count k key n placed) (more : k < count) (x : ℕ) (is : IsFirstAfter q (point_at q key n) x)
-    where
-      abbrev entry_k : Entry
-      entry_k = get_or (entries q) k no_entry
+  module _ (k key n : ℕ) (placed : Placed) (at : Met q count k key n placed) (more : k < count) where
+    abbrev entry_k : Entry
+    entry_k = get_or (entries q) k no_entry
 
-      rest : after (point_at q key n) (entries q) ≡ entry_k ∷ drop (suc k) (entries q)
-      rest = at.cursor more ∙ drop-cons (entries q) k no_entry (omega (arith, some))
+    rest : after (point_at q key n) (entries q) ≡ entry_k ∷ drop (suc k) (entries q)
+    rest = at.cursor more ∙ drop-cons (entries q) k no_entry (omega (arith, some))
 
-      first_left : first_of (decide_sound q) (after (point_at q key n) (entries q))
-          ≡ record { answer = 0; key = entry_k.key; release = entry_k.release; id = entry_k.id }
-      first_left = ap (first_of (decide_sound q)) rest ∙ first_some (decide_sound q) sound entry_k (drop (suc k) (entries q))
+    first_left : first_of (decide_sound q) (after (point_at q key n) (entries q))
+        ≡ record { answer = 0; key = entry_k.key; release = entry_k.release; id = entry_k.id }
+    first_left = ap (first_of (decide_sound q)) rest ∙ first_some (decide_sound q) sound entry_k (drop (suc k) (entries q))
 
-      -- one is left, so one is found
-      pub found_place : x < places
-      found_place =
-          found_inside is
-          (λ none. let absent : 25 ≡ 0 = ap (λ (f : Found). f.answer) (sym (after_none q sound (point_at q key n) x is (decide_sound q) none) ∙ first_left) in
-          lt_irrefl 0 (omega (arith, absent)))
+    -- one is left, so one is found
+    pub one_left : IsNoneAfter q (point_at q key n) → ⊥
+    one_left none =
+        let absent : 25 ≡ 0 = ap (λ (f : Found). f.answer) (sym (after_none q sound (point_at q key n) (decide_sound q) none) ∙ first_left) in
+        lt_irrefl 0 (omega (arith, absent))
 
+    module _ (x : ℕ) (is : IsFirstAfter q (point_at q key n) x) where
       found_entry : entry_at q x ≡ entry_k
       found_entry =
-          let same = sym (after_found q sound (point_at q key n) x is (decide_sound q) found_place) ∙ first_left in
+          let same = sym (after_found q sound (point_at q key n) (decide_sound q) x is) ∙ first_left in
           entry_path (entry_at q x) entry_k (ap (λ (f : Found). f.key) same) (ap (λ (f : Found). f.release) same) (ap (λ (f : Found). f.id) same)
 
       abbrev ids' : List ℕ
@@ -139,9 +137,9 @@ module _ (q : Queue) (sound : Sound q) (count : ℕ) (some : count ≤ length (e
       -- with the entry found stored as the k-th, one more is met, and the walk stands at its place
       pub one_more_met : (j key' : ℕ) → j ≡ k + 1 → key' ≡ key_at q x → Met q count j key' x (with_place placed k (id_at q x) x)
       one_more_met j key' is_j is_key =
-          let holds = (is.found found_place).0 in
+          let holds = is.holds in
           let next_place : suc k ≡ j = omega (arith, is_j) in
-          let as_found = entry_path (point_at q key' x) (entry_at q x) is_key (low_place (release_at q) x found_place) (low_place (id_at q) x found_place) in
+          let as_found = entry_path (point_at q key' x) (entry_at q x) is_key (low_place (release_at q) x is.holds.0) (low_place (id_at q) x is.holds.0) in
           let point_is : point_at q key' x ≡ entry_k = as_found ∙ found_entry in
           record {
             within = omega (arith, is_j);
@@ -149,13 +147,13 @@ module _ (q : Queue) (sound : Sound q) (count : ℕ) (some : count ≤ length (e
             stands = λ _.
                 record {
                   node = inl (holds.0, place_rank q x holds);
-                  in_bucket = bucket_place (key_at q) x found_place ∙ ap bucket_of_key (sym is_key);
+                  in_bucket = bucket_place (key_at q) x is.holds.0 ∙ ap bucket_of_key (sym is_key);
                   held = ∣ (x, holds, sym is_key) ∣₁;
                 };
             cursor = λ _.
                 ap (λ (e : Entry). after e (entries q)) point_is ∙ after_place (entries q) ordered k no_entry (omega (arith, some))
                 ∙ ap (λ (i : ℕ). drop i (entries q)) next_place;
-            node = omega (arith, found_place);
+            node = omega (arith, is.holds.0);
             long_ids = length-set placed.ids k (id_at q x) ∙ at.long_ids;
             long_places = length-set placed.places k x ∙ at.long_places;
           }
@@ -182,4 +180,4 @@ module _ (q : Queue) (sound : Sound q) (count : ℕ) (some : count ≤ length (e
               rw (get_or-set_other placed.ids k i (id_at q x) 0 (other i less), get_or-set_other placed.places k i x 0 (other i less))
               (at.met.places i less)
           there i (no not_before) below =
-              rw (last i below not_before) (rw (id_here, place_here) (record { holds = (is.found found_place).0; has_id = refl }))
+              rw (last i below not_before) (rw (id_here, place_here) (record { holds = is.holds; has_id = refl }))

@@ -1,31 +1,25 @@
 -- A run of moves: what holds after k of them.
-use Rattle.std.specs.Prelude.{◌≡◌, List, ℕ, suc, ◌+◌, ◌≤◌, ◌<◌, get_or}
+use Rattle.std.specs.Prelude.{◌≡◌, List, ℕ, suc, ◌+◌, ◌<◌, get_or}
 use Rattle.std.proofs.Math.Path.{refl, ap, subst⁻¹}
-use Rattle.std.proofs.Common.{sym, subst, ◌∙◌, add-one, arith}
-use Rattle.basics.specs.Limits.{places}
+use Rattle.std.proofs.Common.{sym, ◌∙◌, add-one}
 use Rattle.places.specs.Entries.{InBounds}
 use Rattle.queue.specs.Layout.{id_at, Holds, entries}
 use Rattle.queue.specs.Calls.{moved, HasEntries}
-use Rattle.queue.specs.Linking.{HasShape, CanMoveAt, IsMovedAt, moved_all, CanMoveAll}
+use Rattle.queue.specs.Linking.{CanMoveAt, IsMovedAt, moved_all, CanMoveAll}
 use Rattle.queue.specs.Layout.Change.{place_filed}
 use Rattle.queue.specs.declared.Queue.{Queue}
 use Rattle.queue.specs.declared.Placed.{Placed}
 
 -- after k moves: their entries, and every id still at its place
 pub record Moving (q : Queue) (placed : Placed) (amounts : List ℕ) (k : ℕ) (r : Queue) : Type 0 where
-  pub shape : HasShape r
   pub has_entries : HasEntries r (moved_all placed.ids amounts k (entries q))
   pub ids : r.ids ≡ q.ids
 
 module _ (q : Queue) (placed : Placed) (amounts : List ℕ) (n : ℕ) (can : CanMoveAll q placed amounts n) where
   -- the queue itself is what a run has left after none of its moves
-  pub none_moved : HasShape q → Moving q placed amounts 0 q
+  pub none_moved : Moving q placed amounts 0 q
   unfolding moved_all
-  none_moved shape = record { shape = shape; has_entries = record { sound = can.sound; content = refl }; ids = refl }
-
-  -- a run has at most 64 moves, so each is counted below 64
-  pub turn_below : (k : ℕ) → k < n → k < places
-  turn_below k more = omega (arith, can.few)
+  none_moved = record { has_entries = record { sound = can.sound; content = refl }; ids = refl }
 
   module _ (k : ℕ) (more : k < n) (r : Queue) (moving : Moving q placed amounts k r) where
     abbrev id : ℕ
@@ -52,7 +46,6 @@ module _ (q : Queue) (placed : Placed) (amounts : List ℕ) (n : ℕ) (can : Can
     pub can_move_next : CanMoveAt r place amount
     can_move_next =
         record {
-          shape = moving.shape;
           holds = holds;
           can = record { sound = moving.has_entries.sound; filed = place_filed r place holds; bounds = subst⁻¹ InBounds next_entries (can.bounds k more) };
         }
@@ -62,13 +55,6 @@ module _ (q : Queue) (placed : Placed) (amounts : List ℕ) (n : ℕ) (can : Can
     one_more_moved after is =
         subst⁻¹ (λ (j : ℕ). Moving q placed amounts j after) (add-one k)
         (record {
-          shape = is.shape;
           has_entries = record { sound = is.has_entries.sound; content = is.has_entries.content ∙ next_entries };
           ids = is.places ∙ moving.ids;
         })
-
-  -- with n of them done it is the run
-  pub all_moved : (k : ℕ) → k ≤ n → n ≤ k → (r : Queue) → Moving q placed amounts k r → HasEntries r (moved_all placed.ids amounts n (entries q))
-  all_moved k within all r moving =
-      let same : k ≡ n = omega arith in
-      subst (λ (j : ℕ). HasEntries r (moved_all placed.ids amounts j (entries q))) same moving.has_entries

@@ -1,31 +1,25 @@
--- Stream ids counted one number after the other.
-use Rattle.std.specs.Prelude.{◌≡◌, List, [], ◌∷◌, ◌++◌, ℕ, ◌+◌, ◌≤◌, ◌<◌, length, get_or, take}
-use Rattle.std.proofs.Common.{sym, ap, ◌∙◌, add-one, arith, length-append, take-suc}
+-- Stream ids counted.
+use Rattle.std.specs.Prelude.{◌≡◌, List, ◌∷◌, ℕ, ◌+◌, ◌≤◌, length, take, leb, cond}
+use Rattle.std.specs.List.{count_by}
+use Rattle.std.proofs.Common.{refl, sym, arith, take_all}
 use Rattle.std.proofs.Math.Logic.{if_pos, if_neg}
 use Rattle.std.proofs.Math.Decide.{dec_le}
+use Rattle.std.proofs.lemmas.Bool.{le-leb, lt-leb}
+use Rattle.std.proofs.lemmas.List.Recursion.{is_count_by}
 use Rattle.basics.specs.Limits.{largest_id}
 use Rattle.messages.specs.Numbers.{stream_ids}
-use Rattle.messages.specs.Facts.Numbers.{stream_ids_append}
 
-module _ (ns : List ℕ) (i : ℕ) (inside : i < length ns) where
-  -- the ids before the next place are those before a place, and what is of the number there
-  next_ids : stream_ids (take (i + 1) ns) ≡ stream_ids (take i ns) ++ stream_ids (get_or ns i 0 ∷ [])
-  next_ids =
-      ap (λ (j : ℕ). stream_ids (take j ns)) (add-one i)
-      ∙ ap stream_ids (take-suc ns i 0 inside)
-      ∙ stream_ids_append (take i ns) (get_or ns i 0 ∷ [])
+-- there are as many stream ids as numbers that are at most the largest id
+ids_counted : (ns : List ℕ) → length (stream_ids ns) ≡ count_by (λ n. leb n largest_id) ns
+ids_counted = is_count_by (λ ns. length (stream_ids ns)) (λ n. leb n largest_id) refl step
+  where
+    step : (n : ℕ) (ns : List ℕ) → length (stream_ids (n ∷ ns)) ≡ cond (leb n largest_id) (1 + length (stream_ids ns)) (length (stream_ids ns))
+    step n ns = go (dec_le n largest_id)
+      where
+        go : Dec (n ≤ largest_id) → length (stream_ids (n ∷ ns)) ≡ cond (leb n largest_id) (1 + length (stream_ids ns)) (length (stream_ids ns))
+        go (yes low) = rw (if_pos (dec_le n largest_id) low, le-leb n largest_id low) (omega arith)
+        go (no high) = rw (if_neg (dec_le n largest_id) high, lt-leb n largest_id (omega arith)) refl
 
-  -- an id is counted ..
-  pub one_more_id : get_or ns i 0 ≤ largest_id → length (stream_ids (take i ns)) + 1 ≡ length (stream_ids (take (i + 1) ns))
-  one_more_id low =
-      sym (ap (length {A = ℕ})
-      (next_ids ∙ ap (λ (l : List ℕ). stream_ids (take i ns) ++ l) (if_pos (dec_le (get_or ns i 0) largest_id) low (get_or ns i 0 ∷ []) []))
-      ∙ length-append (stream_ids (take i ns)) (get_or ns i 0 ∷ []))
-
-  -- .. and another number is not
-  pub no_more_ids : (get_or ns i 0 ≤ largest_id → ⊥) → length (stream_ids (take i ns)) ≡ length (stream_ids (take (i + 1) ns))
-  no_more_ids high =
-      sym (ap (length {A = ℕ})
-      (next_ids ∙ ap (λ (l : List ℕ). stream_ids (take i ns) ++ l) (if_neg (dec_le (get_or ns i 0) largest_id) high (get_or ns i 0 ∷ []) []))
-      ∙ length-append (stream_ids (take i ns)) []
-      ∙ omega arith)
+-- with all numbers looked at, all stream ids are counted
+pub all_counted : (ns : List ℕ) (i : ℕ) → length ns ≤ i → count_by (λ n. leb n largest_id) (take i ns) ≡ length (stream_ids ns)
+all_counted ns i all = rw (take_all i ns all) (sym (ids_counted ns))

@@ -1,5 +1,5 @@
 -- A successful opening gives a sound planner, and the closed planner is not sound.
-use Rattle.std.specs.Prelude.{◌≡◌, refl, ◌↔◌, ℕ, ◌-◌, ◌≤◌, ◌<◌, length}
+use Rattle.std.specs.Prelude.{◌≡◌, ◌↔◌, ℕ, ◌-◌, ◌≤◌, ◌<◌, length}
 use Rattle.std.proofs.Common.{sym, subst, ◌∙◌, lt_irrefl, lt_of_lt_of_le, arith}
 use Rattle.std.proofs.Math.Path.{subst⁻¹}
 use Rattle.std.proofs.Math.Logic.{∥∥₁_elim}
@@ -15,22 +15,15 @@ use Rattle.basics.specs.Facts.Refusals.{AllPass, AllNumbered, zero_all_pass, fir
 use Rattle.rules.specs.Demand.{demand, future}
 use Rattle.table.specs.Range.{RecordsInRange}
 use Rattle.table.specs.Facts.Streams.{none_seen}
-use Rattle.queue.specs.Interface.{Entry, empty_queue}
+use Rattle.queue.specs.Interface.{Entry}
 use Rattle.queue.specs.InterfaceLaws.{empty_has_none}
-use Rattle.queue.specs.declared.Queue.{Queue}
-use Rattle.messages.specs.Waiting.{no_waiting}
-use Rattle.messages.specs.declared.Waiting.{Waiting}
 use Rattle.state.specs.Content.{Content, slots_of, frame_of}
-use Rattle.state.specs.Sound.{HasSlots, decide_has_slots, SettingInRange, MailInRange, InRange, ContentSound, Sound}
-use Rattle.state.specs.Open.{flag_of, setting, zeros, open_refusals, opened, fresh_with, IsFresh, IsOpened}
+use Rattle.state.specs.Sound.{HasSlots, decide_has_slots, MailInRange, InRange, ContentSound, Sound}
+use Rattle.state.specs.Needs.{NumbersInRange}
+use Rattle.state.specs.Open.{flag_of, setting, zeros, open_refusals, opened, IsFresh, IsOpened}
 use Rattle.state.specs.declared.Planner.{Planner}
 use Rattle.state.specs.declared.Setting.{Setting}
 use Rattle.state.specs.declared.Changed.{Changed}
-
--- what is in range where open refuses nothing
-pub record NumbersInRange (s : Setting) (t : ℕ) : Type 0 where
-  pub setting : SettingInRange s
-  pub last : t ≤ last_start
 
 -- the numbers of what is in range
 pub range_numbers : {h : Content} → InRange h → NumbersInRange h.setting h.last
@@ -51,10 +44,6 @@ opened_sound s t numbers =
       demand_rule = λ u some. rw none_seen (omega arith);
       start_rule = λ u after. rw none_seen (omega arith);
     }
-
--- the empty queue, and nothing that waits, is all that a planner with these numbers and no stream wants
-pub with_empty_queue : (s : Setting) (t : ℕ) (q : Queue) → q ≡ empty_queue → (w : Waiting) → w ≡ no_waiting → IsFresh s t (fresh_with s t q w)
-with_empty_queue s t q is w nothing = record { whole = rw (is, nothing) refl; holds = rw nothing refl }
 
 -- a fresh planner with its numbers in range is sound
 fresh_is_sound : (s : Setting) (t : ℕ) → NumbersInRange s t → (p : Planner) → IsFresh s t p → Sound p

@@ -1,6 +1,6 @@
 -- The facts that the test of soundness rests on.
 use Rattle.std.specs.Prelude.{◌≡◌, Bool, ◌↔◌, ℕ, ◌+◌, ◌≤◌, ◌<◌, length}
-use Rattle.std.proofs.Common.{sym, subst, ◌∙◌, lt_irrefl, arith, length-take}
+use Rattle.std.proofs.Common.{sym, ◌∙◌, arith, length-take}
 use Rattle.std.proofs.Math.Logic.{∥∥₁_elim, ∥∥₁_map, ∥∥₁_prop}
 use Rattle.std.proofs.Math.Logic.Iff.{trans as Iff-trans, symm as Iff-symm}
 use mathlib.Core.List.{List, Mem}
@@ -8,9 +8,9 @@ use Rattle.basics.specs.Decides.{Decides}
 use Rattle.basics.specs.Facts.Decides.{same_as}
 use Rattle.basics.specs.Limits.{key_span, most_slots, most_waiting}
 use Rattle.basics.specs.OneTo.{OneTo}
-use Rattle.rules.specs.Demand.{IsLazyStart}
+use Rattle.rules.specs.Streams.{Stream, due}
 use Rattle.table.specs.Table.{records_of, streams_of, record_at, due_of, IsColumn}
-use Rattle.table.specs.Needs.{CanRead, CanSearch}
+use Rattle.table.specs.Needs.{CanSearch}
 use Rattle.table.specs.declared.Record.{Record}
 use Rattle.table.specs.Facts.Table.{record_at_mem, all_records}
 use Rattle.table.specs.Ids.{IsIds}
@@ -18,7 +18,6 @@ use Rattle.table.specs.Facts.Ids.{ids_rise, ids_ascend}
 use Rattle.table.specs.Range.{TableInRange}
 use Rattle.table.specs.Lengths.{IsBusyLength, IsNextStart, CanTestDemand, CanFindStart}
 use Rattle.table.specs.declared.Table.{Table}
-use Rattle.table.specs.declared.Column.TheVariants.{Due, Release}
 use Rattle.queue.specs.Interface.{Entry, row_of, FilesJust, entries, CanFile}
 use Rattle.queue.specs.InterfaceLaws.{entry_path}
 use Rattle.queue.specs.Interface
@@ -26,8 +25,8 @@ use Rattle.queue.specs.declared.Queue.{Queue}
 use Rattle.messages.specs.Waiting.{waiting_of}
 use Rattle.state.specs.Content.{content, now_of, cap_of, slots_of}
 use Rattle.state.specs.Sound.{entry_of, Sound, MailInRange}
-use Rattle.state.proofs.Facts.Open.{NumbersInRange, in_range_by_numbers}
-use Rattle.state.specs.Needs.{IsSoundStart, CanCompare, IsFiled}
+use Rattle.state.proofs.Facts.Open.{range_numbers, in_range_by_numbers}
+use Rattle.state.specs.Needs.{NumbersInRange, HasNumbers, StartsAt, CanCompare, IsFiled}
 use Rattle.state.specs.declared.Planner.{Planner}
 
 module _ {table : Table} (can : CanCompare table) (long : length table.streams ≡ 64) where
@@ -40,16 +39,8 @@ module _ {table : Table} (can : CanCompare table) (long : length table.streams �
   held : (k : ℕ) → k < table.count → Mem (record_at table k) (records_of table)
   held = record_at_mem table fits
 
-  -- the due times of a table that can be compared can be read as a column: none is above 2,000,000,000 ..
-  pub can_read_dues : CanRead Due table
-  can_read_dues = record { count = can.count; small = λ k below. can.dues (record_at table k) (held k below) }
-
-  -- .. and so can the releases
-  pub can_read_releases : CanRead Release table
-  can_read_releases = record { count = can.count; small = λ k below. omega (arith, can.dues (record_at table k) (held k below)) }
-
-  module _ {ids : List ℕ} (is_ids : IsIds table ids) (dues releases : List ℕ) (is_dues : IsColumn Due table dues)
-      (is_releases : IsColumn Release table releases) where
+  module _ {ids : List ℕ} (is_ids : IsIds table ids) (dues releases : List ℕ) (is_dues : IsColumn due table dues)
+      (is_releases : IsColumn (λ (x : Stream). x.release) table releases) where
     -- ids and due times of the streams are what a queue can file
     pub can_file : CanFile ids dues releases table.count
     can_file =
@@ -88,13 +79,15 @@ module _ {table : Table} (can : CanCompare table) (long : length table.streams �
         (λ w. (w.0, λ e. Iff-trans (w.1 e) (rows_are_entries e)))
         (λ w. (w.0, λ e. Iff-trans (w.1 e) (Iff-symm (rows_are_entries e))))
 
--- a planner that is not sound has no start to give
-pub no_start : (p : Planner) → (Sound p → ⊥) → IsSoundStart p 0
-no_start p not_sound = record { unsound = λ _. not_sound; sound = λ some. absurd (lt_irrefl 0 some); start = λ some. absurd (lt_irrefl 0 some) }
-
--- the table of a sound planner is in range, and near now
-pub table_in_range : (p : Planner) → Sound p → TableInRange p.setting.frame (p.last + 1) p.table
-table_in_range p sound = record { count = sound.count; records = sound.content_sound.in_range.records; near = sound.content_sound.near }
+-- a planner whose numbers are not in range is not sound
+pub no_numbers : (p : Planner) → (HasNumbers p → ⊥) → Sound p → ⊥
+no_numbers p fails sound =
+    fails
+    (record {
+      numbers = range_numbers sound.content_sound.in_range;
+      mail = sound.content_sound.in_range.mail;
+      waiting_count = sound.waiting_count;
+    })
 
 module _ (p : Planner) (numbers : NumbersInRange p.setting p.last) (range : TableInRange p.setting.frame (p.last + 1) p.table) where
   late : (r : Record) → Mem r (records_of p.table) → due_of r ≤ p.last + 1 + key_span
@@ -121,10 +114,10 @@ module _ (p : Planner) (numbers : NumbersInRange p.setting p.last) (range : Tabl
   pub can_test_demand : CanTestDemand (slots_of (content p)) p.setting.frame p.table
   can_test_demand = record { count = range.count; slots = few_slots; frame = numbers.setting.frame; records = range.records.each }
 
-  module _ (busy : ℕ) (is_busy : IsBusyLength (slots_of (content p)) (streams_of p.table) busy) where
+  module _ {busy : ℕ} (is_busy : IsBusyLength (slots_of (content p)) (streams_of p.table) busy) where
     -- a start can be looked for under any cap that is not before now
-    pub can_find_start : {cap : ℕ} → now_of (content p) ≤ cap → 1 ≤ busy → CanFindStart (slots_of (content p)) (p.last + 1) cap busy p.table
-    can_find_start open_cap some =
+    pub can_find_start : {cap : ℕ} → now_of (content p) ≤ cap → CanFindStart (slots_of (content p)) (p.last + 1) cap busy p.table
+    can_find_start open_cap =
         record {
           count = range.count;
           slots = few_slots;
@@ -132,32 +125,30 @@ module _ (p : Planner) (numbers : NumbersInRange p.setting p.last) (range : Tabl
           cap = open_cap;
           formed = λ s m. let each = range.records.each s m in (each.deadline, each.period.1);
           near = range.near;
-          busy = is_busy.busy some;
+          busy = is_busy.busy;
           short = is_busy.short;
         }
 
     -- with the table in range and filed, the two rules decide
-    pub start_found : p.waiting.count ≤ most_waiting → MailInRange p.setting.messages (waiting_of p.waiting) → 1 ≤ busy → IsFiled p.table p.queue
-        → {cap r : ℕ} → IsNextStart (slots_of (content p)) (p.last + 1) cap (streams_of p.table) r → cap ≡ cap_of (content p)
-        → IsSoundStart p r
-    start_found waiting_count mail some filed {r = r} is_start is_cap =
+    pub start_found : p.waiting.count ≤ most_waiting → MailInRange p.setting.messages (waiting_of p.waiting) → IsFiled p.table p.queue
+        → {start : ℕ} → IsNextStart (slots_of (content p)) (p.last + 1) (cap_of (content p)) (streams_of p.table) start → StartsAt p start
+    start_found waiting_count mail filed is_start =
         record {
-          unsound = λ zero sound. is_start.fails zero sound.content_sound.start_rule;
-          sound = λ found.
+          sound =
               record {
                 count = range.count;
                 waiting_count = waiting_count;
                 content_sound =
                     record {
-                      in_range =
-                          in_range_by_numbers numbers
-                          (rw length-take (omega (arith, range.count))) range.records mail;
+                      in_range = in_range_by_numbers numbers (rw length-take (omega (arith, range.count))) range.records mail;
                       near = range.near;
-                      demand_rule = is_busy.holds some;
-                      start_rule = is_start.holds found;
+                      demand_rule = is_busy.holds;
+                      start_rule = is_start.holds;
                     };
                 queue_sound = filed.0;
                 files = filed.1;
               };
-          start = λ found. subst (λ (cap : ℕ). IsLazyStart (slots_of (content p)) cap (streams_of p.table) r) is_cap (is_start.lazy found);
+          start = is_start.lazy;
         }
+
+pub ruleset start_tests = (no_numbers, can_compare, can_test_demand, can_find_start, start_found)

@@ -1,6 +1,6 @@
 -- Where put-by-id, without-id and serve act on a list, and on the records of a table.
 use Rattle.std.specs.Prelude.{◌≡◌, refl, ℕ, zero, suc, ◌≤◌, ◌<◌, set, take, length}
-use Rattle.std.proofs.Common.{sym, ap, subst, ◌∙◌, lt_irrefl, arith, get_or-take, length-take-le}
+use Rattle.std.proofs.Common.{sym, ap, subst, ◌∙◌, lt_irrefl, arith, length-take-le}
 use mathlib.Core.HLevel.{¬_prop}
 use Rattle.std.proofs.Math.Logic.{if_pos, if_neg, ∥∥₁_elim}
 use Rattle.std.proofs.Math.Logic.Dec.{not as Dec-not}
@@ -9,7 +9,7 @@ use Rattle.std.proofs.Math.Decide.{dec_lt, ℕ_discrete}
 use Rattle.std.proofs.Math.Seq.{take-set-lt}
 use Rattle.basics.specs.Facts.Members.{get_or_mem}
 use Rattle.table.specs.Table.{records_of, record_at, no_record}
-use Rattle.table.specs.Facts.Table.{row_at, record_at_mem, all_records}
+use Rattle.table.specs.Facts.Table.{row_at, record_at_mem, all_records, row_there}
 use Rattle.table.specs.Changes.{HasId, put_by_id, without_id, sent, Ascending}
 use Rattle.table.specs.Needs.{serve}
 use Rattle.table.specs.Places.{opened, closed, IsPlaceBefore}
@@ -72,9 +72,6 @@ module _ (table : Table) (held : table.count ≤ length table.streams) where
   pub records_count : length (records_of table) ≡ table.count
   records_count = length-take-le table.count table.streams held
 
-  at_place : (k : ℕ) → k < table.count → row_at (records_of table) k ≡ record_at table k
-  at_place k low = get_or-take table.count table.streams k no_record low
-
   -- an id that a place has is in the table
   pub held_at_place : (id r : ℕ) → r < table.count → (record_at table r).id ≡ id → HasId id (records_of table)
   held_at_place id r low same =
@@ -84,7 +81,7 @@ module _ (table : Table) (held : table.count ≤ length table.streams) where
   pub put_at_place : (x : Record) (r : ℕ) → IsPlaceBefore table x.id r → put_by_id x (records_of table) ≡ opened r x (records_of table)
   put_at_place x r place =
       let id_at : (k : ℕ) → k < table.count → (row_at (records_of table) k).id ≡ (record_at table k).id =
-      λ k low. ap (λ (y : Record). y.id) (at_place k low) in
+      λ k low. ap (λ (y : Record). y.id) (row_there table k low) in
       put_at x (records_of table) r (omega (arith, records_count))
       (λ j low. omega (arith, id_at j (omega arith), place.earlier j low))
       (λ low. let inside : r < table.count = omega (arith, records_count) in omega (arith, id_at r inside, place.later inside))
@@ -94,7 +91,7 @@ module _ (table : Table) (held : table.count ≤ length table.streams) where
     inside = omega (arith, records_count, low)
 
     here : (row_at (records_of table) r).id ≡ id
-    here = ap (λ (x : Record). x.id) (at_place r low) ∙ same
+    here = ap (λ (x : Record). x.id) (row_there table r low) ∙ same
 
     -- the records without a held id are those with the id's place closed
     pub without_at_place : without_id id (records_of table) ≡ closed r (records_of table)
@@ -104,5 +101,5 @@ module _ (table : Table) (held : table.count ≤ length table.streams) where
     pub serve_at_place : take table.count (set table.streams r (sent (record_at table r))) ≡ serve id (records_of table)
     serve_at_place =
         take-set-lt table.count table.streams r (sent (record_at table r)) low
-        ∙ ap (λ (x : Record). set (records_of table) r (sent x)) (sym (at_place r low))
+        ∙ ap (λ (x : Record). set (records_of table) r (sent x)) (sym (row_there table r low))
         ∙ sym (serve_at id (records_of table) ascending r inside here)

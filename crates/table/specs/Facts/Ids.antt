@@ -1,41 +1,20 @@
--- The ids of a table are written place by place; they rise over all 64 places, and halving finds each at its record's place, and a new one's place.
-use Rattle.std.specs.Prelude.{◌≡◌, refl, List, ℕ, ◌+◌, ◌≤◌, ◌<◌, get_or, length, set, replicate}
-use Rattle.std.proofs.Common.{ap, ◌∙◌, lt_irrefl, arith, length-set, get_or-set_other, below_none}
+-- The ids of a table rise over all 64 places, and halving finds each at its record's place, and a new one's place.
+use Rattle.std.specs.Prelude.{◌≡◌, List, ℕ, ◌≤◌, ◌<◌, get_or, length}
+use Rattle.std.proofs.Common.{ap, ◌∙◌, lt_irrefl, arith}
 use Rattle.std.proofs.Math.Path.{subst⁻¹}
 use Rattle.std.proofs.Math.Logic.{by_cases}
 use Rattle.std.proofs.Math.Decide.{dec_lt, ℕ_discrete}
-use Rattle.std.proofs.lemmas.List.{get_or-replicate}
 use Rattle.basics.specs.Places.{Rises, IsPlaceAmong}
 use Rattle.basics.specs.Facts.Places.{place_found}
 use Rattle.basics.specs.Limits.{places}
 use Rattle.table.specs.Table.{records_of, record_at}
-use Rattle.table.specs.Facts.Table.{row_at, one_place_more, record_at_mem, ascending_at}
+use Rattle.table.specs.Facts.Table.{record_at_mem, ascending_at}
 use Rattle.table.specs.Changes.{HasId}
 use Rattle.table.specs.Facts.Changes.{absent_by_place, held_at_place}
 use Rattle.table.specs.Ids.{IsIds}
 use Rattle.table.specs.Needs.{CanSearch}
 use Rattle.table.specs.Places.{IsPlaceBefore, IsPlaceFor}
-use Rattle.table.specs.declared.Record.{Record}
 use Rattle.table.specs.declared.Table.{Table}
-
--- The ids of the first i places are written, the others are still free.
-pub record IdsTo (rows : List Record) (i : ℕ) (values : List ℕ) : Type 0 where
-  pub long : length values ≡ 64
-  pub ids : (k : ℕ) → k < i → get_or values k 0 ≡ (row_at rows k).id
-  pub free : (k : ℕ) → i ≤ k → k < places → get_or values k 0 ≡ 4_294_967_295
-
--- with the largest number of 32 bits at all 64 places, no id is written and all are free
-pub ids_none : (rows : List Record) → IdsTo rows 0 (replicate 64 4_294_967_295)
-ids_none rows = record { long = refl; ids = below_none _; free = λ k from inside. get_or-replicate 64 k 4_294_967_295 0 inside }
-
--- with the id of row i written at place i, the ids of the first i + 1 places are written
-pub ids_more : {rows : List Record} {i : ℕ} {values : List ℕ} → IdsTo rows i values → i < places → IdsTo rows (i + 1) (set values i (row_at rows i).id)
-ids_more {rows} {i} {values} to inside =
-    record {
-      long = length-set values i (row_at rows i).id ∙ to.long;
-      ids = one_place_more (λ k. (row_at rows k).id) values i (row_at rows i).id (omega arith) to.ids refl;
-      free = λ k from below. get_or-set_other values i k (row_at rows i).id 0 (λ same. lt_irrefl k (omega arith)) ∙ to.free k (omega arith) below;
-    }
 
 module _ (table : Table) (can : CanSearch table) (within : table.count ≤ length table.streams) {ids : List ℕ} (is_ids : IsIds table ids) where
   -- ids rise strictly over the records' places

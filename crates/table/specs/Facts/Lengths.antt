@@ -1,14 +1,14 @@
 -- How due times go one length further, and what a walk of them counts: one stream first, then the whole table.
-use Rattle.std.specs.Prelude.{◌≡◌, List, ℕ, zero, suc, ◌+◌, ◌*◌, ◌≤◌, ◌<◌, take, length, set, replicate}
+use Rattle.std.specs.Prelude.{◌≡◌, List, ℕ, zero, suc, ◌+◌, ◌*◌, ◌≤◌, ◌<◌, take, length, set, replicate, ◌++◌}
 use Rattle.std.proofs.Math.Path.{refl, sym, ap}
-use Rattle.std.proofs.Common.{subst, ◌∙◌, add-one, below_none}
+use Rattle.std.proofs.Common.{subst, ◌∙◌, add-one, below_none, get_or-take, length-take, length-take-le, length-append}
 use Rattle.std.proofs.Math.Logic.{if_pos, if_neg}
 use mathlib.Core.HLevel.{×_prop}
 use Rattle.std.proofs.Math.Bridge.{le_prop}
 use Rattle.std.proofs.Math.Nat.{lt_irrefl}
 use Rattle.std.proofs.Math.Decide.{dec_le, dec_lt, ℕ_discrete}
 use native.Mathlib.Omega.{arith}
-use Rattle.std.proofs.Math.ListN.{get_or, length-set}
+use Rattle.std.proofs.Math.ListN.{get_or, length-set, get_or-append}
 use Rattle.std.proofs.lemmas.List.{get_or-replicate}
 use Rattle.std.proofs.Math.Seq.{get_or-set_other}
 use Rattle.basics.specs.Limits.{places}
@@ -18,8 +18,8 @@ use Rattle.rules.proofs.Facts.Division.{packets_none, packets_mono, window, ceil
 use Rattle.rules.specs.Ready.{AllWellFormed, count_by}
 use Rattle.rules.proofs.Facts.CountBy.{count_by_one_more, count_by_none, count_by_demand, count_by_most_in}
 use Rattle.table.specs.Table.{stream_of, as_streams, records_of, streams_of, stream_at}
-use Rattle.table.specs.Lengths.{hits, after_hit, hits_before, IsWalk, CanAdvance, IsAdvance}
-use Rattle.table.specs.Sums.{next_after, HasPeriods, AreNext, AreSums}
+use Rattle.table.specs.Lengths.{hits, after_hit, hits_before, IsWalk, IsAdvance}
+use Rattle.table.specs.Sums.{next_after, HasPeriods, AreSums}
 use Rattle.table.specs.Facts.Table.{row_at, one_row_more, all_records, one_place_more}
 use Rattle.table.specs.Facts.Streams.{none_seen, all_streams}
 use Rattle.table.specs.declared.Record.{Record}
@@ -121,28 +121,25 @@ count_step first rows times t (suc n) within periods walk =
     omega (arith, packets_step s.period (periods n (omega arith)) (first s) t))
 
 -- times of which the first i have gone on to t
-pub record GoneOn (periods : List ℕ) (n t : ℕ) (times₀ times : List ℕ) (sum i : ℕ) : Type 0 where
-  pub within : i ≤ n
+pub record GoneOn (periods : List ℕ) (t : ℕ) (times₀ times : List ℕ) (sum i : ℕ) : Type 0 where
   pub size : length times ≡ length times₀
   pub gone_on : (k : ℕ) → k < i → get_or times k 0 ≡ after_hit (get_or times₀ k 0) t (get_or periods k 0)
   pub left : (k : ℕ) → i ≤ k → get_or times k 0 ≡ get_or times₀ k 0
   pub counted : sum ≡ hits_before times₀ t i
 
 -- before the first time is looked at, all are as they were and none is counted
-pub none_gone_on : (periods : List ℕ) (n t : ℕ) (times : List ℕ) → GoneOn periods n t times times 0 0
+pub none_gone_on : (periods : List ℕ) (t : ℕ) (times : List ℕ) → GoneOn periods t times times 0 0
 unfolding hits_before
-none_gone_on periods n t times =
-    record { within = omega arith; size = refl; gone_on = below_none _; left = λ k high. refl; counted = refl }
+none_gone_on periods t times = record { size = refl; gone_on = below_none _; left = λ k high. refl; counted = refl }
 
-module _ {periods : List ℕ} {n t : ℕ} {times₀ times : List ℕ} {sum i : ℕ} (so_far : GoneOn periods n t times₀ times sum i) where
+module _ {periods : List ℕ} {t : ℕ} {times₀ times : List ℕ} {sum i : ℕ} (so_far : GoneOn periods t times₀ times sum i) where
   -- with time i moved on, and counted if it was at t, the first i + 1 have gone on to t
-  pub one_more_gone_on : i < n → n ≤ length times₀ → (hit time : ℕ) → hit ≡ hits (get_or times i 0) t
-      → time ≡ after_hit (get_or times i 0) t (get_or periods i 0) → GoneOn periods n t times₀ (set times i time) (sum + hit) (i + 1)
+  pub one_more_gone_on : i < length times₀ → (hit time : ℕ) → hit ≡ hits (get_or times i 0) t
+      → time ≡ after_hit (get_or times i 0) t (get_or periods i 0) → GoneOn periods t times₀ (set times i time) (sum + hit) (i + 1)
   unfolding hits_before
-  one_more_gone_on low room hit time is_hit is_time =
+  one_more_gone_on low hit time is_hit is_time =
       let old : get_or times i 0 ≡ get_or times₀ i 0 = so_far.left i (omega arith) in
       record {
-        within = omega arith;
         size = length-set times i time ∙ so_far.size;
         gone_on = one_place_more (λ k. after_hit (get_or times₀ k 0) t (get_or periods k 0)) times i time
             (omega arith) so_far.gone_on (rw old at is_time);
@@ -150,10 +147,10 @@ module _ {periods : List ℕ} {n t : ℕ} {times₀ times : List ℕ} {sum i : �
         counted = rw (add-one i) (omega (arith, ap (λ (x : ℕ). hits x t) old));
       }
 
-  -- when all n have gone on, the times are one length further, at t, and the sum is how many of them were there
-  pub all_gone_on : n ≤ i → IsAdvance periods times₀ n t times sum
+  -- when all have gone on, the times are one length further, at t, and the sum is how many of them were there
+  pub all_gone_on : i ≡ length times → IsAdvance periods times₀ t times sum
   all_gone_on all_of_them =
-      let e : i ≡ n = omega arith in
+      let e : i ≡ length times₀ = all_of_them ∙ so_far.size in
       record {
         moved = λ k low. so_far.gone_on k (omega arith);
         counted = so_far.counted ∙ ap (hits_before times₀ t) e;
@@ -162,10 +159,6 @@ module _ {periods : List ℕ} {n t : ℕ} {times₀ times : List ℕ} {sum i : �
       }
 
 module _ {table : Table} {periods : List ℕ} (has : HasPeriods table periods) where
-  -- the next due times of a table with its periods in range can go on to any length up to 60,000
-  pub can_advance : {first : Stream → ℕ} {u t : ℕ} {times : List ℕ} → AreNext first table u times → t ≤ 60_000 → CanAdvance periods times table.count t
-  can_advance next near = record { count = has.count; room = next.room; short = λ k low. omega (arith, has.column k low, has.range k low); near = near }
-
   -- before every first due time nothing is counted
   pub walk_begins : (first : Stream → ℕ) (t : ℕ) → ((k : ℕ) → k < table.count → t < first (stream_at table k))
       → (times : List ℕ) → length times ≡ 64 → ((k : ℕ) → k < table.count → get_or times k 0 ≡ first (stream_at table k)) → IsWalk first table t times 0
@@ -183,25 +176,39 @@ module _ {table : Table} {periods : List ℕ} (has : HasPeriods table periods) w
         sym (count_by_none first (streams_of table) t (all_streams Late (λ s. ×_prop le_prop le_prop) (records_of table) late_record));
   }
 
-  -- a walk whose times go one length further counts those that they had there
-  pub walk_goes_on : {first : Stream → ℕ} {before t sum r : ℕ} {times later : List ℕ} → before + 1 ≡ t → IsWalk first table before times sum
-      → IsAdvance periods times table.count t later r → IsWalk first table t later (sum + r)
-  walk_goes_on {first} {before} {t} {sum} {r} {times} {later} next walk on = subst (λ (u : ℕ). IsWalk first table u later (sum + r)) next (record {
-    are_next = record {
-      times = λ k low. let s = stream_at table k in
-          there.moved k low ∙ rw (walk.are_next.times k low, has.column k low) (next_step s.period (has.range k low).0 (first s) before);
-      room = omega arith;
-    };
-    counted = omega (
-      arith,
-      there.counted,
-      walk.counted,
-      count_step first table.streams times before table.count has.within (λ k low. (has.range k low).0) walk.are_next.times,
-    );
-  })
+  -- a walk whose first times go one length further counts those that they had there, whatever stands behind them
+  pub walk_goes_on : {first : Stream → ℕ} {before t sum r : ℕ} {times later : List ℕ} (rest : List ℕ) → before + 1 ≡ t → IsWalk first table before times sum
+      → IsAdvance periods (take table.count times) t later r → IsWalk first table t (later ++ rest) (sum + r)
+  walk_goes_on {first} {before} {t} {sum} {r} {times} {later} rest next walk on =
+      subst (λ (u : ℕ). IsWalk first table u (later ++ rest) (sum + r)) next (record {
+        are_next = record {
+          times = λ k low.
+              let s = stream_at table k in
+              let inside : k < length later = omega (arith, there.size, few) in
+              let own : k < length (take table.count times) = omega (arith, few) in
+              get_or-append later rest 0 k inside ∙ there.moved k own
+              ∙ rw (begins k low, has.column k low) (next_step s.period (has.range k low).0 (first s) before);
+          room = simp length-append (omega (arith, there.size, few));
+        };
+        counted =
+            let all : r ≡ hits_before (take table.count times) (before + 1) table.count =
+            there.counted ∙ ap (hits_before (take table.count times) (before + 1)) few in
+            omega (
+              arith,
+              all,
+              walk.counted,
+              count_step first table.streams (take table.count times) before table.count has.within (λ k low. (has.range k low).0) begins,
+            );
+      })
     where
-      there : IsAdvance periods times table.count (before + 1) later r
-      there = subst (λ (u : ℕ). IsAdvance periods times table.count u later r) (sym next) on
+      few : length (take table.count times) ≡ table.count
+      few = length-take-le table.count times walk.are_next.room
+
+      begins : (k : ℕ) → k < table.count → get_or (take table.count times) k 0 ≡ next_after (stream_at table k).period (first (stream_at table k)) before
+      begins k low = get_or-take table.count times k 0 low ∙ walk.are_next.times k low
+
+      there : IsAdvance periods (take table.count times) (before + 1) later r
+      there = subst (λ (u : ℕ). IsAdvance periods (take table.count times) u later r) (sym next) on
 
   module _ (formed : AllWellFormed (streams_of table)) where
     -- the walks of the deadlines and of the releases carry the sums of the rules
@@ -230,10 +237,10 @@ module _ {table : Table} {periods : List ℕ} (has : HasPeriods table periods) w
         (omega arith, omega arith)
 
     -- one length further the sums have grown by the deadlines and the releases that come there
-    pub sums_carried : {before t due all : ℕ} {dues releases dues' releases' : List ℕ} {sums : Sums} → before + 1 ≡ t
-        → AreSums table before dues releases sums → IsAdvance periods dues table.count t dues' due
-        → IsAdvance periods releases table.count t releases' all
-        → AreSums table t dues' releases' (record { demand = sums.demand + due; most = sums.most + all })
-    sums_carried next sums dues_on releases_on =
-        of_walks (walk_goes_on next (due_walk sums) dues_on) (walk_goes_on next (release_walk sums) releases_on)
-        (omega arith, omega arith)
+    pub sums_carried : {before t due all : ℕ} {dues releases dues' releases' : List ℕ} {sums : Sums} (dues_rest releases_rest : List ℕ) → before + 1 ≡ t
+        → AreSums table before dues releases sums → IsAdvance periods (take table.count dues) t dues' due
+        → IsAdvance periods (take table.count releases) t releases' all
+        → AreSums table t (dues' ++ dues_rest) (releases' ++ releases_rest) (record { demand = sums.demand + due; most = sums.most + all })
+    sums_carried {dues = dues} {releases = releases} dues_rest releases_rest next sums dues_on releases_on =
+        of_walks (walk_goes_on dues_rest next (due_walk sums) dues_on) (walk_goes_on releases_rest next (release_walk sums) releases_on)
+        (omega (arith, length-take table.count dues), omega (arith, length-take table.count releases))

@@ -1,17 +1,16 @@
--- A table is in range exactly if each of its records can follow the one before it.
+-- Records are in range and near exactly if each can follow the one before it.
 use Rattle.std.specs.Prelude.{◌≡◌, refl, List, ℕ, zero, suc, ◌+◌, ◌≤◌, ◌<◌, length}
 use Rattle.std.proofs.Common.{sym, subst, lt_irrefl, add-one, arith, below_none, below_more}
 use mathlib.Core.HLevel.{×_prop}
 use Rattle.std.proofs.Math.Nat.{∣_prop}
 use Rattle.std.proofs.Math.Bridge.{le_prop}
 use Rattle.std.proofs.Math.Decide.{dec_lt}
-use Rattle.basics.specs.Limits.{places}
-use Rattle.table.specs.Table.{record_at}
-use Rattle.table.specs.Facts.Table.{row_at, record_at_mem, all_records, ascending_at, ascending_from}
-use Rattle.table.specs.Range.{RecordInRange, TableInRange}
+use Rattle.basics.specs.Facts.Members.{get_or_mem}
+use Rattle.table.specs.Table.{no_record}
+use Rattle.table.specs.Facts.Table.{row_at, all_at, ascends_at, ascends_from}
+use Rattle.table.specs.Range.{RecordInRange, RecordsInRange, AreNear}
 use Rattle.table.specs.RangeTests.{IsNear, CanFollow}
 use Rattle.table.specs.declared.Record.{Record}
-use Rattle.table.specs.declared.Table.{Table}
 
 -- the id that the record at place n stands behind, 0 for the first
 unfoldable pub id_before : List Record → ℕ → ℕ
@@ -42,13 +41,13 @@ one_more_followed frame now rows n before so_far here = record {
 }
 
 -- ids that rise from one place to the next rise from any place to any later one
-rise : (rows : List Record) (n : ℕ) → ((k : ℕ) → k < n → id_before rows k < (row_at rows k).id)
-    → (j k : ℕ) → j < k → k < n → (row_at rows j).id < (row_at rows k).id
+rise : (rows : List Record) → ((k : ℕ) → k < length rows → id_before rows k < (row_at rows k).id)
+    → (j k : ℕ) → j < k → k < length rows → (row_at rows j).id < (row_at rows k).id
 unfolding id_before
-rise rows n step j zero order low = absurd (lt_irrefl 0 (omega arith))
-rise rows n step j (suc k) order low = go (dec_lt j k) (rise rows n step j k)
+rise rows step j zero order low = absurd (lt_irrefl 0 (omega arith))
+rise rows step j (suc k) order low = go (dec_lt j k) (rise rows step j k)
   where
-    go : Dec (j < k) → (j < k → k < n → (row_at rows j).id < (row_at rows k).id) → (row_at rows j).id < (row_at rows (suc k)).id
+    go : Dec (j < k) → (j < k → k < length rows → (row_at rows j).id < (row_at rows k).id) → (row_at rows j).id < (row_at rows (suc k)).id
     go (yes earlier) ih = omega (arith, step (suc k) low, ih earlier (omega arith))
     go (no late) ih =
         let same : k ≡ j = omega arith in
@@ -63,40 +62,35 @@ record_in_range_prop frame r p q = λ i. record {
   deadline = ×_prop le_prop le_prop p.deadline q.deadline i;
 }
 
--- a table of at most 64 records, all of which follow one another, is in range
-pub all_followed : (frame now : ℕ) (table : Table) (n before : ℕ) → table.count ≤ places → table.count ≤ n
-    → Followed frame now table.streams n before → TableInRange frame now table
-all_followed frame now table n before count reached f =
-    let each : (k : ℕ) → k < table.count → CanFollow frame now (id_before table.streams k) (record_at table k) =
-    λ k low. f.each k (omega arith) in
-    let all_Near = all_records (IsNear now) (λ _. ×_prop le_prop le_prop) table (λ k low. (each k low).near) in
-    record {
-      count = count;
-      records = record {
-        each = all_records (RecordInRange frame) (record_in_range_prop frame) table (λ k low. (each k low).in_range);
-        ascending = ascending_from table (rise table.streams table.count (λ k low. (each k low).after));
-      };
-      near = record {
-        due_after = λ r m. (all_Near r m).0;
-        released = λ r m. (all_Near r m).1;
-      };
-    }
+-- records all of which follow one another are in range and near
+pub all_followed : (frame now : ℕ) (rows : List Record) (n before : ℕ) → length rows ≤ n → Followed frame now rows n before
+    → RecordsInRange frame rows × AreNear now rows
+all_followed frame now rows n before reached f =
+    let each : (k : ℕ) → k < length rows → CanFollow frame now (id_before rows k) (row_at rows k) = λ k low. f.each k (omega arith) in
+    let all_near = all_at (IsNear now) (λ _. ×_prop le_prop le_prop) rows (λ k low. (each k low).near) in (
+      record {
+        each = all_at (RecordInRange frame) (record_in_range_prop frame) rows (λ k low. (each k low).in_range);
+        ascending = ascends_from rows (rise rows (λ k low. (each k low).after));
+      },
+      record {
+        due_after = λ r m. (all_near r m).0;
+        released = λ r m. (all_near r m).1;
+      },
+    )
 
--- in a table in range each record is above the one before it
-above_before : (frame now : ℕ) (table : Table) → table.count ≤ length table.streams → TableInRange frame now table
-    → (k : ℕ) → k < table.count → id_before table.streams k < (record_at table k).id
+-- among records in range each is above the one before it
+above_before : (frame : ℕ) (rows : List Record) → RecordsInRange frame rows → (k : ℕ) → k < length rows → id_before rows k < (row_at rows k).id
 unfolding id_before
-above_before frame now table within in_range zero low = (in_range.records.each _ (record_at_mem table within zero low)).id.0
-above_before frame now table within in_range (suc k) low = ascending_at table within in_range.records.ascending k (suc k) (omega arith) low
+above_before frame rows in_range zero low = (in_range.each _ (get_or_mem rows zero no_record low)).id.0
+above_before frame rows in_range (suc k) low = ascends_at rows in_range.ascending k (suc k) (omega arith) low
 
--- in a table in range the record at place n can follow the n before it
-pub next_follows : (frame now : ℕ) (table : Table) (n before : ℕ) → length table.streams ≡ 64 → n < table.count
-    → Followed frame now table.streams n before → TableInRange frame now table → CanFollow frame now before (record_at table n)
-next_follows frame now table n before shape low f in_range =
-    let within : table.count ≤ length table.streams = omega arith in
-    let member = record_at_mem table within n low in
+-- among records in range and near the one at place n can follow the n before it
+pub next_follows : (frame now : ℕ) (rows : List Record) (n before : ℕ) → RecordsInRange frame rows → AreNear now rows → n < length rows
+    → Followed frame now rows n before → CanFollow frame now before (row_at rows n)
+next_follows frame now rows n before in_range near low f =
+    let member = get_or_mem rows n no_record low in
     record {
-      after = omega (arith, above_before frame now table within in_range n low);
-      in_range = in_range.records.each _ member;
-      near = (in_range.near.due_after _ member, in_range.near.released _ member);
+      after = omega (arith, above_before frame rows in_range n low);
+      in_range = in_range.each _ member;
+      near = (near.due_after _ member, near.released _ member);
     }

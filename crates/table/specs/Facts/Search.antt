@@ -1,26 +1,25 @@
 -- The search for the next start over a table: what it may rely on, and what each length that it looks at adds.
-use Rattle.std.specs.Prelude.{◌≡◌, refl, ℕ, ◌+◌, ◌-◌, ◌*◌, ◌≤◌, ◌<◌, min, length}
-use Rattle.std.proofs.Common.{ap, ◌∙◌, le_trans, lt_irrefl, mul-le-mul_left, mul-le-mul_right, arith}
+use Rattle.std.specs.Prelude.{◌≡◌, refl, ℕ, ◌+◌, ◌-◌, ◌*◌, ◌≤◌, ◌<◌, min, take, get_or, length, ◌++◌}
+use Rattle.std.proofs.Common.{ap, ◌∙◌, le_trans, arith, get_or-take, length-take, length-take-le}
 use mathlib.Core.HLevel.{×_prop}
 use mathlib.Core.List.{List, [], ◌∷◌, Mem}
 use Rattle.std.proofs.Math.Bridge.{le_prop}
-use Rattle.std.proofs.Math.Decide.{dec_lt}
-use Rattle.basics.specs.Limits.{longest_period, key_span}
+use Rattle.basics.specs.Limits.{places, longest_period, key_span}
 use Rattle.basics.specs.OneTo.{OneTo}
 use Rattle.rules.specs.Streams.{Stream, WellFormed, due}
-use Rattle.rules.specs.Demand.{packets_by, future, ceil, DueAfter}
-use Rattle.rules.proofs.Facts.Division.{packets_quotient, ceil_least, ceil_enough}
+use Rattle.rules.specs.Demand.{StartRule, packets_by, future, ceil, DueAfter}
+use Rattle.rules.proofs.Facts.Division.{packets_quotient}
 use Rattle.rules.specs.Ready.{count_by, AllWellFormed}
 use Rattle.rules.proofs.Facts.Sums.{first_of, rest_of, period_positive, future_counts, future_mono}
-use Rattle.table.specs.Table.{due_of, records_of, streams_of, record_at, stream_at}
-use Rattle.table.specs.Lengths.{CanFindStart, IsNextStart, CanNarrow, IsNarrow, IsWalk, IsAdvance}
+use Rattle.table.specs.Table.{due_of, records_of, streams_of, record_at, stream_at, IsColumn}
+use Rattle.table.specs.Needs.{EachRecord}
+use Rattle.table.specs.Lengths.{CanFindStart, IsNextStart, IsWalk, IsAdvance}
 use Rattle.table.specs.Facts.Table.{record_at_mem, stream_at_mem, all_records}
 use Rattle.table.specs.Facts.Streams.{none_seen, all_streams}
 use Rattle.table.specs.Facts.Lengths.{walk_begins, walk_goes_on}
 use Rattle.table.specs.Start.{IsLeastOf, due_from, CanLookFrom}
-use Rattle.table.specs.Facts.Start.{Looked, looked_more, looked_all, found_none, nothing_due}
+use Rattle.table.specs.Facts.Start.{Looked, looked_none, looked_more, looked_all, found_none, nothing_due}
 use Rattle.table.specs.declared.Table.{Table}
-use Rattle.table.specs.declared.Column.TheVariants.{Period, Due}
 
 no_streams : (table : Table) → table.count ≡ 0 → (t : ℕ) → future (streams_of table) t ≡ 0
 unfolding future
@@ -37,35 +36,28 @@ module _ {b x cap T : ℕ} {table : Table} (can : CanFindStart b x cap T table) 
   due_after : DueAfter x (streams_of table)
   due_after = all_streams (λ s. x < due s) (λ s. le_prop) (records_of table) can.near.due_after
 
+  -- the periods fit 16 bits, and so do the due times less now
+  pub period_fits : EachRecord (λ r. OneTo longest_period r.period) table
+  period_fits r m = let formed = can.formed r m in (omega arith, formed.1)
+
+  pub due_fits : EachRecord (λ r. (x < due_of r) × (due_of r ≤ x + key_span)) table
+  due_fits r m = (can.near.due_after r m, omega (arith, can.near.released r m, can.formed r m))
+
   module _ (within : table.count ≤ length table.streams) where
     due_near : (k : ℕ) → k < table.count → (x < due_of (record_at table k)) × (due_of (record_at table k) ≤ x + key_span)
-    due_near k below =
-        let m = record_at_mem table within k below in
-        (can.near.due_after (record_at table k) m, omega (arith, can.near.released (record_at table k) m, can.formed (record_at table k) m))
-
-    -- the due times less now can be narrowed: none is before now, or more than 60,000 after it
-    pub can_narrow_due : CanNarrow Due table x
-    can_narrow_due =
-        record { count = can.count; fits = omega arith; near = λ k below. let near = due_near k below in (omega arith, omega arith) }
-
-    period_range : (k : ℕ) → k < table.count → OneTo longest_period (record_at table k).period
-    period_range k below = let formed = can.formed (record_at table k) (record_at_mem table within k below) in (omega arith, formed.1)
-
-    -- the periods can be narrowed as they are: none is above 60,000
-    pub can_narrow_period : CanNarrow Period table 0
-    can_narrow_period = record { count = can.count; fits = omega arith; near = λ k below. (omega arith, omega (arith, period_range k below)) }
+    due_near k below = due_fits (record_at table k) (record_at_mem table within k below)
 
     -- the least due time of the table is where to begin
-    pub can_look : {periods dues : List ℕ} {least : ℕ} → IsNarrow Period table 0 periods → IsNarrow Due table x dues → IsLeastOf dues table.count least
-        → CanLookFrom b x cap (x + least) T table periods dues
-    can_look {periods} {dues} {least} period_column column is_least =
+    pub can_look : {periods dues : List ℕ} {least : ℕ} → IsColumn (λ s. s.period) table periods → IsColumn (due_from x) table dues → length dues ≡ 64
+        → IsLeastOf (take table.count dues) least → CanLookFrom b x cap (x + least) T table periods dues
+    can_look {periods} {dues} {least} period_column column size is_least =
         record {
           can = can;
-          has = record { count = can.count; within = within; column = λ k below. omega (arith, period_column k below); range = period_range };
+          has = record { count = can.count; within = within; column = period_column; range = λ k below. period_fits _ (record_at_mem table within k below) };
           column = column;
           before = all_streams (λ s. x + least ≤ due s) (λ s. le_prop) (records_of table)
               (all_records (λ r. x + least ≤ due_of r) (λ r. le_prop) table
-              (λ k below. omega (arith, is_least.at_most k below, column k below, due_near k below)));
+              (λ k below. omega (arith, is_least.at_most k (omega (arith, few)), first_dues k below, column k below, due_near k below)));
           counts = future_counts (streams_of table) well_formed (stream_at table place) there (x + least) (omega (arith, here));
           after = omega (arith, here, due_near place inside);
           near = omega (arith, here, due_near place inside);
@@ -74,14 +66,20 @@ module _ {b x cap T : ℕ} {table : Table} (can : CanFindStart b x cap T table) 
         place : ℕ
         place = is_least.reached.0
 
+        few : length (take table.count dues) ≡ table.count
+        few = length-take-le table.count dues (omega arith)
+
+        first_dues : (k : ℕ) → k < table.count → get_or (take table.count dues) k 0 ≡ get_or dues k 0
+        first_dues k below = get_or-take table.count dues k 0 below
+
         inside : place < table.count
-        inside = is_least.reached.1
+        inside = omega (arith, is_least.reached.1, few)
 
         there : Mem (stream_at table place) (streams_of table)
         there = stream_at_mem table within place inside
 
         here : x + least ≡ due_of (record_at table place)
-        here = omega (arith, column place inside, due_near place inside)
+        here = omega (arith, is_least.reached.2, first_dues place inside, column place inside, due_near place inside)
 
 -- counted from a base on, as many packets are due
 packets_from : (p : ℕ) → 1 ≤ p → (base d t : ℕ) → base ≤ d → base ≤ t → packets_by p (d - base) (t - base) ≡ packets_by p d t
@@ -97,49 +95,54 @@ future_from (s ∷ ss) base t on all late =
     let here = packets_from s.period (period_positive s (first_of all)) base (due s) t (omega (arith, first_of late)) on in
     rw (here, future_from ss base t on (rest_of all) (rest_of late))
 
--- rounds that hold fewer packets than there are do not suffice
-pub too_few_rounds : {b m n : ℕ} → 1 ≤ b → b * n < m → n < ceil m b
-too_few_rounds {b} {m} {n} positive short = go (dec_lt n (ceil m b))
-  where
-    go : Dec (n < ceil m b) → n < ceil m b
-    go (yes more) = more
-    go (no enough) = let most : b * ceil m b ≤ b * n = mul-le-mul_left b (omega arith) in
-        absurd (lt_irrefl m (omega (arith, ceil_enough m b positive)))
-
--- no packet takes more than a round
-pub few_rounds : (b m : ℕ) → 1 ≤ b → ceil m b ≤ m
-few_rounds b m positive = let enough : 1 * m ≤ b * m = mul-le-mul_right m positive in ceil_least m b m positive (omega arith)
+-- the search stands at t: the lengths before it have been looked at, the walk stands at the length before it, and no more rounds are thought to be
+-- needed than are
+pub record SearchedTo (b x cap first : ℕ) (table : Table) (times : List ℕ) (sum needed start t : ℕ) : Type 0 where
+  pub small : sum ≤ places * (t - first)
+  pub low : needed ≤ ceil sum b
+  pub looked : Looked b x cap (streams_of table) first t start
+  pub walk : IsWalk (due_from x) table (t - x - 1) times sum
 
 module _ {b x cap first T : ℕ} {table : Table} {periods dues : List ℕ} (can : CanLookFrom b x cap first T table periods dues) where
-  -- before the first due time nothing has been counted
-  pub begins : length dues ≡ 64 → IsWalk (due_from x) table (first - x - 1) dues 0
-  begins size =
-      walk_begins can.has (due_from x) (first - x - 1)
-      (λ k below. omega (arith, can.before (stream_at table k) (stream_at_mem table can.has.within k below))) dues size can.column
-
-  -- where a walk stands when it has gone on to t
-  pub walked : {times later : List ℕ} {sum r t : ℕ} → (before : ℕ) × (before + 1 ≡ t) × IsWalk (due_from x) table before times sum
-      → IsAdvance periods times table.count t later r → IsWalk (due_from x) table t later (sum + r)
-  walked (before, next, walk) on = walk_goes_on can.has next walk on
+  -- at the first due time nothing has been looked at or counted
+  pub search_begins : length dues ≡ 64 → SearchedTo b x cap first table dues 0 0 cap first
+  search_begins size = record {
+    small = omega arith;
+    low = omega arith;
+    looked = looked_none b x cap (streams_of table) first can.can.cap;
+    walk = walk_begins can.has (due_from x) (first - x - 1)
+        (λ k below. omega (arith, can.before (stream_at table k) (stream_at_mem table can.has.within k below))) dues size can.column;
+  }
 
   some_due : (t : ℕ) → first ≤ t → 0 < future (streams_of table) t
   some_due t on = le_trans can.counts (future_mono (streams_of table) (well_formed can.can) first t on)
 
-  module _ {t n sum : ℕ} {times : List ℕ} (walk : IsWalk (due_from x) table (t - x) times sum) (parts : n ≡ ceil sum b) (on : first ≤ t) where
-    needed : n ≡ ceil (future (streams_of table) t) b
-    needed =
+  -- at t the walk goes one length further, and the rounds are counted up to what the packets due by t need
+  module _ {t sum needed start r n : ℕ} {times later : List ℕ} (so_far : SearchedTo b x cap first table times sum needed start t) (on : first ≤ t)
+      (there : IsAdvance periods (take table.count times) (t - x) later r) (parts : n ≡ ceil (sum + r) b) where
+    walked : (rest : List ℕ) → IsWalk (due_from x) table (t - x) (later ++ rest) (sum + r)
+    walked rest = walk_goes_on can.has rest (omega arith) so_far.walk there
+
+    needed_at : n ≡ ceil (future (streams_of table) t) b
+    needed_at =
         parts
         ∙ ap (λ (m : ℕ). ceil m b)
-        (walk.counted ∙ future_from (streams_of table) x t (omega arith) (well_formed can.can) (due_after can.can))
+        ((walked []).counted ∙ future_from (streams_of table) x t (omega arith) (well_formed can.can) (due_after can.can))
 
     -- no start at now or later leaves the rounds that the packets due by t need ..
-    pub stops : t < x + n → IsNextStart b x cap (streams_of table) 0
-    stops short = found_none b x cap (streams_of table) first t can.can.slots.0 n needed (omega arith) short
+    pub stops : t < x + n → ¬ StartRule b x (streams_of table)
+    stops short = found_none b x cap (streams_of table) first t can.can.slots.0 n needed_at (omega arith) short
 
     -- .. or one does, and t has been looked at
-    pub goes_on : {start r : ℕ} → x + n ≤ t → Looked b x cap (streams_of table) first t start → r ≡ min (t - n) start
-        → Looked b x cap (streams_of table) first (t + 1) r
-    goes_on room looked e = looked_more b x cap (streams_of table) first t can.can.slots.0 n needed on (some_due t on) room looked e
+    pub goes_on : (rest : List ℕ) {next : ℕ} → x + n ≤ t → next ≡ min (t - n) start → SearchedTo b x cap first table (later ++ rest) (sum + r) n next (t + 1)
+    goes_on rest room e =
+        let back : t + 1 - x - 1 ≡ t - x = omega arith in
+        record {
+          small = omega (arith, length-take table.count times);
+          low = omega arith;
+          looked = looked_more b x cap (streams_of table) first t can.can.slots.0 n needed_at on (some_due t on) room so_far.looked e;
+          walk = rw back (walked rest);
+        }
 
   -- a busy length of lengths has been looked at
   pub ends : {t start : ℕ} → t ≡ first + T → Looked b x cap (streams_of table) first t start → IsNextStart b x cap (streams_of table) start

@@ -1,5 +1,5 @@
 -- The search for the next start: what the lengths looked at so far show, and what follows once all of them have been looked at.
-use Rattle.std.specs.Prelude.{◌≡◌, refl, get_or}
+use Rattle.std.specs.Prelude.{◌≡◌, refl}
 use Rattle.std.proofs.Common.{subst, inl, le_trans, mul-le-mul_left, lt_irrefl}
 use Rattle.std.proofs.Math.Path.{sym}
 use mathlib.Core.List.{List, Mem}
@@ -7,36 +7,13 @@ use Prim.Native.Nat.{ℕ, suc, ◌+◌, ◌-◌, ◌*◌, ◌≤◌, ◌<◌, mi
 use Rattle.std.proofs.Math.Decide.{dec_le, dec_lt}
 use native.Mathlib.Omega.{arith}
 use Rattle.rules.specs.Streams.{Stream, due}
-use Rattle.rules.specs.Demand.{future, ceil, IsLazyStart}
+use Rattle.rules.specs.Demand.{StartRule, future, ceil, IsLazyStart}
 use Rattle.rules.proofs.Facts.Division.{ceil_least, ceil_enough}
 use Rattle.rules.proofs.Facts.Sums.{fits_start_rule, future_before_all}
 use Rattle.rules.specs.Ready.{AllWellFormed, Fits, IsBusy}
 use Rattle.rules.proofs.Facts.Busy.{busy_settles_start}
 use Rattle.rules.proofs.Facts.LazyStart.{least_of, latest, latest_some, lazy_start, IsFirstDue, lazy_start_is_lazy}
 use Rattle.table.specs.Lengths.{IsNextStart}
-use Rattle.table.specs.Start.{IsLeastOf}
-
--- of one value, that value is the least
-pub least_one : {values : List ℕ} {m : ℕ} → m ≡ get_or values 0 0 → IsLeastOf values 1 m
-least_one e =
-    record { at_most = λ k below. let first : k ≡ 0 = omega arith in rw first (omega arith); reached = (0, omega arith, e) }
-
--- the lesser of the least so far and value n is the least of the first n + 1
-pub least_more : {values : List ℕ} {n m r : ℕ} → IsLeastOf values n m → r ≡ min (get_or values n 0) m → IsLeastOf values (n + 1) r
-least_more {values} {n} {m} {r} least e =
-    record { at_most = λ k below. at_most k below (dec_lt k n); reached = reached (dec_le m (get_or values n 0)) }
-  where
-    at_most : (k : ℕ) → k < n + 1 → Dec (k < n) → r ≤ get_or values k 0
-    at_most k below (yes l) = omega (arith, least.at_most k l)
-    at_most k below (no l) = let last : k ≡ n = omega arith in rw last (omega arith)
-
-    reached : Dec (m ≤ get_or values n 0) → (k : ℕ) × (k < n + 1) × (r ≡ get_or values k 0)
-    reached (yes le) = (least.reached.0, omega arith, omega arith)
-    reached (no gt) = (n, omega arith, omega arith)
-
--- when as many values as there are have been looked at, the least so far is the least of all
-pub least_all : {values : List ℕ} {n count m : ℕ} → n ≡ count → IsLeastOf values n m → IsLeastOf values count m
-least_all {values} {n} {count} {m} e least = subst (λ (k : ℕ). IsLeastOf values k m) e least
 
 -- what the lengths from `first` on and before t show: the start rule holds at each, and `start` is the least of what they and the cap allow
 pub record Looked (b x cap : ℕ) (ss : List Stream) (first t start : ℕ) : Type 0 where
@@ -73,13 +50,8 @@ module _ (b x cap : ℕ) (ss : List Stream) (first t : ℕ) (positive : 1 ≤ b)
           rw last (le_trans (ceil_enough (future ss t) b positive) (mul-le-mul_left b (omega arith)))
 
   -- a length at which they do not: the start rule fails
-  pub found_none : x < t → t < x + needed → IsNextStart b x cap ss 0
-  found_none after short =
-      record {
-        fails = λ e rule. lt_irrefl t (omega (arith, ceil_least (future ss t) b (t - x) positive (rule t after)));
-        holds = λ some. absurd (lt_irrefl 0 some);
-        lazy = λ some. absurd (lt_irrefl 0 some);
-      }
+  pub found_none : x < t → t < x + needed → ¬ StartRule b x ss
+  found_none after short rule = lt_irrefl t (omega (arith, ceil_least (future ss t) b (t - x) positive (rule t after)))
 
 module _ (b x cap : ℕ) (ss : List Stream) (first T : ℕ) (all : AllWellFormed ss) (before : (s : Stream) → Mem s ss → first ≤ due s) where
   first_is_first : 0 < future ss first → IsFirstDue ss first
@@ -98,9 +70,9 @@ module _ (b x cap : ℕ) (ss : List Stream) (first T : ℕ) (all : AllWellFormed
       → IsNextStart b x cap ss start
   looked_all {t} {start} positive some after busy counts end looked =
       record {
-        fails = λ e _. lt_irrefl 0 (omega arith);
-        holds = λ _. fits_start_rule b x ss fits;
-        lazy = λ _. subst (IsLazyStart b cap ss) (sym (least_is_found end looked.least)) is_lazy;
+        holds = fits_start_rule b x ss fits;
+        lazy = subst (IsLazyStart b cap ss) (sym (least_is_found end looked.least)) is_lazy;
+        some = omega arith;
       }
     where
       fits : Fits b x ss
@@ -113,7 +85,7 @@ module _ (b x cap : ℕ) (ss : List Stream) (first T : ℕ) (all : AllWellFormed
 pub nothing_due : (b x cap : ℕ) (ss : List Stream) → 1 ≤ x → x ≤ cap → ((t : ℕ) → future ss t ≡ 0) → IsNextStart b x cap ss cap
 nothing_due b x cap ss some low none =
     record {
-      fails = λ e _. lt_irrefl 0 (omega arith);
-      holds = λ _ t _. omega (arith, none t);
-      lazy = λ _. record { one_of_them = inl refl; by_cap = omega arith; by_demand = λ t counts. absurd (lt_irrefl 0 (omega (arith, none t))) };
+      holds = λ t _. omega (arith, none t);
+      lazy = record { one_of_them = inl refl; by_cap = omega arith; by_demand = λ t counts. absurd (lt_irrefl 0 (omega (arith, none t))) };
+      some = omega arith;
     }

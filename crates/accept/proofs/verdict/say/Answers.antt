@@ -2,5 +2,5 @@
 use Rattle.accept.proofs.Within.{at_within}
 use Rattle.accept.proofs.verdict.say.Goals as goal
 
-pub put_finding-end-requires : goal.put_finding-end-requires
-put_finding-end-requires g c = at_within c.find-found.ensures
+pub verdict_of-verdict-requires : goal.verdict_of-verdict-requires
+verdict_of-verdict-requires c = at_within c.find.ensures

@@ -1,17 +1,19 @@
-use Rattle.std.proofs.Common.{◌≤◌, ◌+◌, arith}
-use Rattle.command.proofs.Facts.Puts.{put_one_digit, tenth_ends, put_last_digit}
+use Rattle.std.proofs.Common.{◌+◌, ◌%◌, ◌<◌, length, arith}
+use Rattle.command.proofs.Facts.Puts.{put_byte, put_one_digit, tenth_ends, put_last_digit}
 use Rattle.command.proofs.print.+put_number_in_range.Goals as goal
 
 pub returns-then-value-lt10 : goal.returns-then-value-lt10
-returns-then-value-lt10 t c = put_one_digit c.args.value c.if-value-lt10.true c.put_byte_in_range.ensures
+returns-then-value-lt10 t c = put_one_digit c.args.value c.if-value-lt10.true (put_byte c.args.out.now 0 (48 + c.args.value) (omega (arith, c.requires)))
 
-pub put_byte_in_range-requires-2 : goal.put_byte_in_range-requires-2
-put_byte_in_range-requires-2 t c =
-    let tenth = c.put_number_in_range-end in
-    let ends : tenth.result ≤ c.args.at + 19 = tenth_ends c.args.value c.ranges.value.fits tenth.ensures in
-    omega (arith, ends, c.requires, tenth.auto.out)
+pub bounds-out-written : goal.bounds-out-written
+bounds-out-written t c =
+    let tenth = c.put_number_in_range-written in
+    omega (arith, tenth_ends c.args.value c.ranges.value.fits tenth.ensures, c.requires, tenth.auto.out)
 
 pub returns : goal.returns
 returns t c =
-    let tenth = c.put_number_in_range-end in
-    put_last_digit c.args.value c.ranges.value.fits c.if-value-lt10.false (omega (arith, c.requires)) tenth.ensures c.put_byte_in_range-2.ensures
+    let tenth = c.put_number_in_range-written in
+    let inside : tenth.result < length tenth.new.out =
+    omega (arith, tenth_ends c.args.value c.ranges.value.fits tenth.ensures, c.requires, tenth.auto.out) in
+    put_last_digit c.args.value c.ranges.value.fits c.if-value-lt10.false (omega arith) tenth.ensures
+    (put_byte tenth.new.out tenth.result (48 + c.args.value % 10) inside)

@@ -1,9 +1,6 @@
--- `console::system::write_most` stays within the bytes.
-use Rattle.std.proofs.Common.{length, ◌-◌, ◌≤◌}
+-- `console::system::write_most` ends: each write leaves fewer bytes.
+use Rattle.std.proofs.Common.{length}
 use Rattle.console.proofs.system.write_most.Given as goal
 
-abbrev pub invariant-loop-done : goal.invariant-loop-done
-invariant-loop-done g l = l.done ≤ length l.bytes
-
-abbrev pub decreases-loop-done : goal.decreases-loop-done
-decreases-loop-done g l = length l.bytes - l.done
+abbrev pub decreases-loop-written : goal.decreases-loop-written
+decreases-loop-written g l = length l.rest

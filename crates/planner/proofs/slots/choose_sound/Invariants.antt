@@ -1,13 +1,7 @@
--- `planner::slots::choose_sound` meets its contract: after i entries the released ones among them have been taken,
--- each beside its row and its place.
-use Prim.Native.Nat.{◌-◌}
+-- `planner::slots::choose_sound` meets its contract: after i entries the released ones among them have been taken, each beside its row and its place.
 use Rattle.state.specs.Content.{content, slots_of}
 use Rattle.planner.proofs.Facts.Choosing.{Visited}
 use Rattle.planner.proofs.slots.choose_sound.Given as goal
 
 abbrev pub invariant-loop-i : goal.invariant-loop-i
-invariant-loop-i l =
-    Visited l.p.queue l.table (slots_of (content l.p)) l.start l.i (record { placed = l.placed; rows = l.rows; n = l.n })
-
-abbrev pub decreases-loop-i : goal.decreases-loop-i
-decreases-loop-i l = l.table.count - l.i
+invariant-loop-i l = Visited l.p.queue l.p.table (slots_of (content l.p)) l.start l.i l.chosen

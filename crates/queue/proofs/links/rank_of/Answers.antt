@@ -4,8 +4,8 @@ use native.Mathlib.Omega.{arith}
 use Rattle.queue.specs.Layout.Ranks.{rank_some, rank_none}
 use Rattle.queue.proofs.links.rank_of.Goals as goal
 
-pub returns-then-id-lt1 : goal.returns-then-id-lt1
-returns-then-id-lt1 c = sym (rank_none _ _ (omega (arith, c.if-id-lt1.true)))
+pub returns-then-entry-lt1 : goal.returns-then-entry-lt1
+returns-then-entry-lt1 c = sym (rank_none _ _ (omega (arith, c.if-entry-lt1.true)))
 
 pub returns : goal.returns
-returns c = sym (rank_some _ _ c.if-id-lt1.false)
+returns c = sym (rank_some _ _ c.if-entry-lt1.false)

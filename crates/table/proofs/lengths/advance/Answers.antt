@@ -7,7 +7,7 @@ use Rattle.table.proofs.lengths.advance.Goals as goal
 use Rattle.table.proofs.lengths.advance.Code as code
 
 pub loop-i-init : goal.loop-i-init
-loop-i-init c = none_gone_on _ _ _ _
+loop-i-init c = none_gone_on _ _ _
 
 pub overflow_add-sum : goal.overflow_add-sum
 overflow_add-sum c =
@@ -17,15 +17,10 @@ overflow_add-sum c =
 
 pub loop-i-preserved : goal.loop-i-preserved
 loop-i-preserved c =
-    let pre = c.requires in
-    let gone_on = c.loop-i.invariant in
-    let inside = c.loop-i-test.true in
-    let hit = c.hit-sum in
-    let after = c.time_after in
-    one_more_gone_on gone_on inside pre.room hit.result after.result hit.ensures after.ensures
+    one_more_gone_on c.loop-i.invariant c.loop-i-test.true _ _ c.hit-sum.ensures c.time_after.ensures
 
 pub returns : goal.returns
-returns c = all_gone_on c.loop-i.invariant c.loop-i-test.false
+returns c = all_gone_on c.loop-i.invariant (omega arith)
 
 -- Annex 12.20: no division, no remainder, and no call but of functions of which the same is proved
 pub no_division : NeverDivides code.function

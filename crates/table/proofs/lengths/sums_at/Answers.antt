@@ -9,9 +9,7 @@ use Rattle.table.proofs.lengths.sums_at.Code as code
 pub returns : goal.returns
 returns c =
     let pre = c.requires in
-    let dues-gone-on = c.advance.ensures in
-    let releases-gone-on = c.advance-2.ensures in
-    sums_carried pre.has pre.formed (omega arith) pre.sums dues-gone-on releases-gone-on
+    sums_carried pre.has pre.formed _ _ (omega arith) pre.sums c.advance.ensures c.advance-2.ensures
 
 -- Annex 12.20: no division, no remainder, and no call but of functions of which the same is proved
 pub no_division : NeverDivides code.function

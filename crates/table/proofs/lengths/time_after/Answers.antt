@@ -6,10 +6,10 @@ use Rattle.table.proofs.lengths.time_after.Goals as goal
 use Rattle.table.proofs.lengths.time_after.Code as code
 
 pub returns-then-time-t : goal.returns-then-time-t
-returns-then-time-t c = sym (after_no _ _ _ c.if-time-t.true)
+returns-then-time-t c = sym (after_yes _ _ _ c.if-time-t.true)
 
-pub returns : goal.returns
-returns c = sym (after_yes _ _ _ c.if-time-t.false)
+pub returns-else-time-t : goal.returns-else-time-t
+returns-else-time-t c = sym (after_no _ _ _ c.if-time-t.false)
 
 -- Annex 12.20: no division, no remainder, and no call but of functions of which the same is proved
 pub no_division : NeverDivides code.function

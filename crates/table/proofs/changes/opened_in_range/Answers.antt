@@ -1,9 +1,0 @@
-use Rattle.table.specs.Facts.Moves.{all_opened}
-use Rattle.table.proofs.Shape.{table_shape}
-use Rattle.table.proofs.changes.opened_in_range.Goals as goal
-
-pub returns : goal.returns
-returns c =
-    let args = c.args in
-    let shape = table_shape args.table _ c.well_formed.0 in
-    all_opened args.table args.place c.requires shape c.loop-i-test.false c.loop-i.invariant args.stream

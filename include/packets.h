@@ -162,7 +162,7 @@ PACKET_FIELD(packet_header, n, 12);
  * What these calls need from outside: nothing (`nm -u libplanner.a`, packets.o). No heap; no pointer is kept; a call writes nothing but the packet
  * that it is lent and its stack, and returns.
  *
- * Stack, in bytes, return address included: packet_write 241, packet_read 336, packet_ids_length 320, packet_version 24 (16 of each are the measuring
+ * Stack, in bytes, return address included: packet_write 256, packet_read 464, packet_ids_length 448, packet_version 24 (16 of each are the measuring
  * program's). Measured on a painted stack (`bash bench/stack`), the most over packets of every n and every answer. That is this build, by the compiler
  * that built it, and no promise: measure again what is linked, and leave room above it. */
 

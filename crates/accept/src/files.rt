@@ -1,12 +1,13 @@
 // A file that an argument names, read whole. What the system delivers lies outside the contracts.
-ghost use Rattle.std.specs.Prelude.{◌≤◌, length, IfOk, IfSome};
-
 use crate::complaint::{SystemWords, complain};
 use std::env::FillError;
 use std::fmt::{Display, Formatter};
 use std::io::{Error, Read};
 use std::rt::{Env, Files};
 use std::{fmt, fs, str};
+
+// The most bytes of a file.
+pub const MOST_BYTES: usize = 3500000;
 
 // Why a file is not read.
 #[derive(Clone, Copy)]
@@ -28,20 +29,18 @@ impl Display for Unread {
         match self {
             Unread::NoSuchOption => f.write_str("there is no such option; --help says more"),
             Unread::NotUtf8 => f.write_str("its name is not UTF-8"),
-            Unread::TooLong => f.write_str("it has more than 3500000 bytes"),
+            Unread::TooLong => write!(f, "it has more than {MOST_BYTES} bytes"),
             Unread::Failed(error) => write!(f, "{}", SystemWords(*error)),
         }
     }
 }
 
-// All bytes up to the end of the file: how many there are. Where no room is left, it has more than it may have.
-fn read_all<F: Read>(file: &mut F, space: &mut [u8]) -> Result<usize, Unread>
-    ensures { IfOk result (λ count. count ≤ length space.new) }
-{
+// All bytes up to the end of the file. Where no room is left, it has more than it may have.
+fn read_all<'s, F: Read>(file: &mut F, space: &'s mut [u8]) -> Result<&'s [u8], Unread> {
     let mut done: usize = 0;
     while done < space.len() {
         match file.read(&mut space[done..])? {
-            0 => return Ok(done),
+            0 => return Ok(&space[..done]),
             more => done += more,
         }
     }
@@ -49,9 +48,7 @@ fn read_all<F: Read>(file: &mut F, space: &mut [u8]) -> Result<usize, Unread>
 }
 
 // What begins with - is an option and no file; a file of such a name is ./-name. std opens a file by a name in UTF-8 alone.
-fn read_file<R: Files>(rt: &R, path: &[u8], space: &mut [u8]) -> Result<usize, Unread>
-    ensures { IfOk result (λ count. count ≤ length space.new) }
-{
+fn read_file<'s, R: Files>(rt: &R, path: &[u8], space: &'s mut [u8]) -> Result<&'s [u8], Unread> {
     if path.starts_with(b"-") {
         return Err(Unread::NoSuchOption);
     }
@@ -62,10 +59,8 @@ fn read_file<R: Files>(rt: &R, path: &[u8], space: &mut [u8]) -> Result<usize, U
     read_all(&mut file, space)
 }
 
-// The file that argument i names: how many bytes it has, or none where standard error says why it is not read.
-pub fn read_argument(rt: HostRuntime, i: usize, space: &mut [u8]) -> Option<usize>
-    ensures { IfSome result (λ count. count ≤ length space.new) }
-{
+// The bytes of the file that argument i names, or none where standard error says why it is not read.
+pub fn read_argument(rt: HostRuntime, i: usize, space: &mut [u8]) -> Option<&[u8]> {
     let mut path = [0u8; 4096];
     let n = match rt.arg(i, &mut path) {
         Ok(n) => n,
@@ -79,7 +74,7 @@ pub fn read_argument(rt: HostRuntime, i: usize, space: &mut [u8]) -> Option<usiz
         }
     };
     match read_file(&rt, &path[..n], space) {
-        Ok(count) => Some(count),
+        Ok(bytes) => Some(bytes),
         Err(unread) => {
             complain(rt, &path[..n], unread);
             None

@@ -2,10 +2,10 @@
 ghost use Rattle.std.specs.Prelude.{◌≡◌, MatchResult};
 ghost use Rattle.accept.specs.Script.{IsPlannerOf, IsRun, IsUndone};
 
-use command::line_end_in_range;
+use command::{ROOM, line_end_in_range};
 use planner::Planner;
 
-// The number of a line that was not done, and the planner that it left.
+// The number of a line that was not done, and the planner that it left; of these `IsUndone` speaks, which states which line ends a script (Annex 14.17).
 #[derive(Clone, Copy)]
 pub struct Undone {
     pub number: u64,
@@ -13,6 +13,7 @@ pub struct Undone {
 }
 
 // Whether an answer says that a line was done: of a round its first number is 0, of any other call its last. A malformed line is answered E.
+// The text is read, since `step_in_range` hands back a planner and a text alone (Annex 11.21, `IsStep`).
 fn is_done(answer: &[u8]) -> bool {
     if answer.len() < 4 {
         return false;
@@ -29,7 +30,7 @@ fn is_done(answer: &[u8]) -> bool {
 fn with_line(rt: HostRuntime, planner: Planner, number: u64, line: &[u8]) -> Result<Planner, Undone>
     ensures { MatchResult result (IsRun planner number line.now) (λ undone. (undone.number ≡ number) × IsRun planner number line.now undone.planner) }
 {
-    let mut out = [0u8; 1430];
+    let mut out = [0u8; ROOM];
     let step = command::step_in_range(planner, number, line, &mut out, 0);
     let answer = &out[..step.end];
     if is_done(answer) {

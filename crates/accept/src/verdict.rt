@@ -2,7 +2,7 @@
 ghost use Rattle.std.specs.Prelude.{◌≤◌, length};
 
 use crate::complaint::{SystemWords, complain};
-use checker::Finding;
+use checker::{Finding, Rule};
 use planner::Planner;
 use round_tests::packet_length;
 use std::fmt;
@@ -52,19 +52,20 @@ impl Display for Round<'_> {
     }
 }
 
-// A rule in words, with its clause.
+// A rule's number, and what breaks it in words, with its clause.
 #[derive(Clone, Copy)]
-struct Rule(u32);
+struct BrokenRule(Rule);
 
-impl Display for Rule {
+impl Display for BrokenRule {
     fn fmt<W: fmt::Write>(&self, f: &mut Formatter<W>) -> fmt::Result {
-        f.write_str(match self.0 {
-            1 => "its packet is cut short, not good, or has another B (14.3)",
-            2 => "its start is not after the last start, or past the gap limit (14.4)",
-            3 => "it has more stream ids than slots for streams (14.5)",
-            4 => "an id is not held, or its packet is unreleased or late (14.6)",
-            _ => "a packet due by its end is left (14.7)",
-        })
+        let words = match self.0 {
+            Rule::Packet => "its packet is cut short, not good, or has another B (14.3)",
+            Rule::Start => "its start is not after the last start, or past the gap limit (14.4)",
+            Rule::Room => "it has more stream ids than slots for streams (14.5)",
+            Rule::Slots => "an id is not held, or its packet is unreleased or late (14.6)",
+            Rule::Rest => "a packet due by its end is left (14.7)",
+        };
+        write!(f, "rule {}, {words}", u32::from(self.0))
     }
 }
 
@@ -90,9 +91,9 @@ impl Display for Verdict<'_> {
             Verdict::Broken { number, rule, rest } => {
                 write!(
                     f,
-                    "round {number} breaks a rule: {}; rule {}, {rule}",
+                    "round {number} breaks a rule: {}; {}",
                     Round(rest),
-                    rule.0
+                    BrokenRule(*rule)
                 )
             }
         }
@@ -106,15 +107,15 @@ fn verdict_of(found: Finding, plan: &[u8]) -> Verdict<'_>
     if found.answer != 0 {
         return Verdict::NotSound;
     }
-    if found.rule == 0 {
-        return Verdict::Sound {
+    match Rule::try_from(found.rule) {
+        Ok(rule) => Verdict::Broken {
+            number: u64::from(found.passed) + 1,
+            rule,
+            rest: &plan[found.at..],
+        },
+        Err(_) => Verdict::Sound {
             rounds: found.passed,
-        };
-    }
-    Verdict::Broken {
-        number: u64::from(found.passed) + 1,
-        rule: Rule(found.rule),
-        rest: &plan[found.at..],
+        },
     }
 }
 

@@ -1,7 +1,8 @@
 -- The number of each refusal, and what a call answers.
 use Rattle.std.specs.Prelude.{Result, Ok, Err, ℕ}
 use Rattle.basics.specs.declared.refusals.Refusal.{Refusal}
-use Rattle.basics.specs.declared.refusals.Refusal.TheVariants.{BadSlots, BadFrame, BadGap, BadLast, NotSound, BadId, IdTaken, Full, BadPeriod, BadDeadline, BadRelease, BreaksDemand, BreaksStart, NoStream, ShortBuffer, LateStart, BadPeriodOfList, LongFrame, Malformed, QueueFull, Filed, OutOfBounds, NotFiled, NoEntry, WrongLength, BadValues, ShortPacketBuffer, BadMessage, WaitingFull}
+use Rattle.basics.specs.declared.refusals.Refusal.TheVariants.{BadSlots, BadFrame, BadGap, BadLast, NotSound, BadId, IdTaken, Full, BadPeriod, BadDeadline, BadRelease, BreaksDemand, BreaksStart}
+use Rattle.basics.specs.declared.refusals.Refusal.TheVariants.{NoStream, ShortBuffer, LateStart, BadPeriodOfList, LongFrame, Malformed, QueueFull, Filed, OutOfBounds, NotFiled, NoEntry, WrongLength, BadValues, ShortPacketBuffer, BadMessage, WaitingFull}
 
 -- Annex 7.2, table 1: the number of a refusal.
 abbrev pub number_of : Refusal → ℕ

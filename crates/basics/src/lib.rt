@@ -67,6 +67,7 @@ pub fn is_one_to(n: u32, most: u32) -> bool
 }
 
 // Whether three numbers come after three others: by the first, where these are equal by the second, and where those are equal too by the third.
+// No crate calls it, since the queue's order is derived; it stays as the form of that order in which two wrong ones are refused.
 pub fn is_after(
     first: u32,
     second: u32,
@@ -85,22 +86,14 @@ pub fn place_among_rising(values: &[u32; 64], x: u32) -> usize
     requires { Rises values.now }
     ensures { IsPlaceAmong values.now x result }
 {
-    values[..63].partition_point(|value| *value < x)
+    values[..PLACES - 1].partition_point(|value| *value < x)
 }
 
-// Whether the id at place i, if there is one, stands at no earlier place. Every earlier place is looked at, also past one with the id: a loop
-// that cannot be left compares eight places at once.
+// Whether the id at place i, if there is one, stands at no earlier place.
 pub fn is_new_at(ids: &[u16; 64], i: usize) -> bool
     requires { i < 64 }
     ensures { Decides result (New (at ids.now) i) }
 {
     let id = ids[i];
-    if id < 1 {
-        return true;
-    }
-    let mut met = false;
-    for earlier in &ids[..i] {
-        met |= *earlier == id;
-    }
-    !met
+    id < 1 || !ids[..i].contains(&id)
 }

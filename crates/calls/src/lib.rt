@@ -37,13 +37,13 @@ pub enum Call {
 #[derive(Clone, Copy)]
 pub struct Answered {
     pub answer: u32,
-    pub held: Option<u32>,
+    pub start: Option<u32>,
 }
 
 // The call that a line says; one with another letter is a round.
 impl From<Line> for Call {
     fn from(line: Line) -> Call {
-        let [_, a, b, c, d, e] = line.numbers;
+        let [a, b, c, d, e] = line.numbers;
         match line.letter {
             Some(b'O') => Call::Open(a, b, c, d, e),
             Some(b'A') => Call::Add(a, b, c, d),
@@ -114,7 +114,7 @@ impl<'a> Host<'a> {
         println!(self.rt; "{call}: {answer} {start} {n}{}", Elements(elements))?;
         Ok(Answered {
             answer,
-            held: (answer == 0).then_some(start),
+            start: (answer == 0).then_some(start),
         })
     }
 
@@ -133,7 +133,10 @@ impl<'a> Host<'a> {
         self.planner = changed.planner;
         let answer = changed.answer;
         println!(self.rt; "{call}: {answer}")?;
-        Ok(Answered { answer, held: None })
+        Ok(Answered {
+            answer,
+            start: None,
+        })
     }
 
     // Does what a line says that is no check: with a small letter it sets a number in the planner, and prints nothing.

@@ -1,10 +1,10 @@
 // A line of text as far as it is read: its first byte, and the numbers behind that, each behind a comma or a blank. Any other byte is passed over.
 
-// The first byte, if there is one, and the numbers, of which the first is at 1.
+// The first byte, if there is one, and the numbers behind the first comma or blank.
 #[derive(Clone, Copy, Default)]
 pub struct Line {
     pub letter: Option<u8>,
-    pub numbers: [u32; 6],
+    pub numbers: [u32; 5],
 }
 
 // Zeros before anything else are no part of a line.
@@ -27,7 +27,7 @@ pub fn line_of(text: &[u8]) -> Line {
     let mut line = Line::default();
     if let Some((letter, fields)) = begun(text).split_first() {
         line.letter = Some(*letter);
-        let fields = fields.split(|c| matches!(*c, b',' | b' '));
+        let fields = fields.split(|c| matches!(*c, b',' | b' ')).skip(1);
         for (number, field) in line.numbers.iter_mut().zip(fields) {
             *number = number_in(field);
         }

@@ -4,7 +4,7 @@ use super::line::Line;
 use planner::Planner;
 
 pub fn set(p: &mut Planner, line: &Line) {
-    let value = line.numbers[1];
+    let value = line.numbers[0];
     match line.letter {
         Some(b'b') => p.setting.slots = value,
         Some(b'm') => p.setting.messages = value,

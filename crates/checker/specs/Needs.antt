@@ -1,5 +1,5 @@
 -- What the inner functions of the crate promise one another. The records are those that a plan has led to.
-use Rattle.std.specs.Prelude.{◌≡◌, Bool, true, false, ℕ, ◌≤◌, ◌<◌, length, get_or, take, drop, Option, MatchOption, Result, MatchResult}
+use Rattle.std.specs.Prelude.{◌≡◌, ⊤, ℕ, ◌≤◌, ◌<◌, length, get_or, take, drop, Option, MatchOption, Result, MatchResult}
 use mathlib.Core.List.{List, ◌++◌, Mem, map}
 use Rattle.basics.specs.Limits.{places, most_slots, largest_key}
 use Rattle.messages.specs.Numbers.{stream_ids}
@@ -15,6 +15,7 @@ use Rattle.checker.specs.Plans.{sent_for, after_foreign, MaySend, HasPacket, Sta
 use Rattle.checker.specs.Rules.{rule_of}
 use Rattle.checker.specs.Columns.{Regular}
 use Rattle.checker.specs.declared.round_rules.Rule.{Rule}
+use Rattle.checker.specs.declared.round_rules.Rule.TheVariants.{Slots}
 use Rattle.checker.specs.declared.rounds.Front.{Front}
 use Rattle.checker.specs.declared.rounds.Passed.{Passed}
 
@@ -37,15 +38,15 @@ pub record MaySendOne (rs : List Record) (id start : ℕ) : Type 0 where
   pub held : HasId id rs
   pub ride : (r : Record) → Mem r rs → r.id ≡ id → RidesNow start r
 
--- One id is sent, or may not be.
-pub record IsSentOne (before after : List Record) (id start : ℕ) (r : Bool) : Type 0 where
-  pub sent : r ≡ true → MaySendOne before id start × (after ≡ serve id before)
-  pub refused : r ≡ false → MaySendOne before id start → ⊥
+-- One id is sent, or may not be: then the rule of the slots is broken.
+abbrev pub IsSentOne : List Record → List Record → ℕ → ℕ → Result ⊤ Rule → Type 0
+IsSentOne before after id start r =
+    MatchResult r (λ _. MaySendOne before id start × (after ≡ serve id before)) (λ rule. (rule ≡ Slots) × (MaySendOne before id start → ⊥))
 
 -- All are sent, or may not be.
-pub record IsSentAll (before after : List Record) (ids : List ℕ) (start : ℕ) (r : Bool) : Type 0 where
-  pub sent : r ≡ true → MaySend before ids start × (after ≡ map (sent_for ids) before)
-  pub refused : r ≡ false → MaySend before ids start → ⊥
+abbrev pub IsSentAll : List Record → List Record → List ℕ → ℕ → Result ⊤ Rule → Type 0
+IsSentAll before after ids start r =
+    MatchResult r (λ _. MaySend before ids start × (after ≡ map (sent_for ids) before)) (λ rule. (rule ≡ Slots) × (MaySend before ids start → ⊥))
 
 -- No record's unserved packet is due by a moment.
 abbrev pub NoneDue : ℕ → List Record → Type 0

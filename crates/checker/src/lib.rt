@@ -5,6 +5,7 @@ ghost use Rattle.state.specs.Sound.{Sound};
 ghost use Rattle.checker.specs.Verdicts.{IsFinding, IsVerdict};
 
 use basics::Refusal;
+pub use round_rules::Rule;
 use rounds::check_round;
 use sending::Streams;
 use state::Planner;
@@ -23,7 +24,7 @@ pub struct Verdict {
 }
 
 // Annex 14.13: how many rounds pass and how many bytes they have, and the number of the rule that the next one breaks, 0 if there is none.
-// Answer and rule are numbers, since a plan that is refused gives zeros too (Annex 14.13; `IsFinding`).
+// All are numbers, since Annex 14.13 and `IsFinding` have four numbers, of a planner that is refused too.
 #[derive(Clone, Copy)]
 pub struct Finding {
     pub answer: u32,
@@ -41,6 +42,7 @@ fn find_sound(p: Planner, plan: &[u8]) -> Finding
     let mut last = p.last;
     let mut passed: u32 = 0;
     let mut at: usize = 0;
+    // The place is counted, as `Finding` hands it back; a rest that shrinks would stand beside it (Annex 14.13).
     while at < plan.len() {
         match check_round(p.setting, last, &plan[at..], &mut streams) {
             Ok(round) => {
@@ -70,15 +72,15 @@ fn find_sound(p: Planner, plan: &[u8]) -> Finding
 pub fn find(p: Planner, plan: &[u8]) -> Finding
     ensures { IsFinding p plan.now result }
 {
-    let Some(_start) = state::sound_start(&p) else {
-        return Finding {
+    match state::sound_start(&p) {
+        Some(_) => find_sound(p, plan),
+        None => Finding {
             answer: u32::from(Refusal::NotSound),
             passed: 0,
             rule: 0,
             at: 0,
-        };
-    };
-    find_sound(p, plan)
+        },
+    }
 }
 
 // Annex 14.1, 14.12: whether the bytes are a sound plan from this planner on, or which round is the first that breaks a rule.

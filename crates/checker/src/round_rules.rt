@@ -1,5 +1,5 @@
 // The rules of a round, and the numbers by which hosts know them.
-ghost use Rattle.std.specs.Prelude.{◌≡◌};
+ghost use Rattle.std.specs.Prelude.{◌≡◌, IfOk};
 ghost use Rattle.checker.specs.Plans.{number_of};
 ghost use Rattle.checker.specs.Rules.{rule_of};
 
@@ -19,5 +19,23 @@ impl From<Rule> for u32 {
 
     fn from(rule: Rule) -> u32 {
         rule as u32
+    }
+}
+
+// The rule that a number of `Finding` stands for; 0 and all others stand for none, and are handed back.
+impl TryFrom<u32> for Rule {
+    type Error = u32;
+
+    ghost try_from_gives = { λ number r. IfOk r (λ rule. number ≡ number_of (rule_of rule)) };
+
+    fn try_from(number: u32) -> Result<Rule, u32> {
+        match number {
+            1 => Ok(Rule::Packet),
+            2 => Ok(Rule::Start),
+            3 => Ok(Rule::Room),
+            4 => Ok(Rule::Slots),
+            5 => Ok(Rule::Rest),
+            _ => Err(number),
+        }
     }
 }

@@ -17,8 +17,8 @@ pub struct Passed {
     pub start: u32,
 }
 
-// A packet as it stands in front, whether it is good or not: how long it is, its start, its B, and its numbers, which are the first `count`: there is no
-// heap.
+// A packet as it stands in front, whether it is good or not: how long it is, its start, its B, and its numbers, which are the first `count`, in
+// the array of 64 that `ids_of_pairs` of packet_bytes gives.
 #[derive(Clone, Copy)]
 struct Front {
     length: usize,
@@ -61,13 +61,13 @@ fn header_checked(setting: Setting, last: u32, front: &Front) -> Result<usize, R
         return Err(Rule::Start);
     }
     let streams = stream_count(numbers);
-    if ((setting.slots - setting.messages) as usize) < streams {
+    if (setting.stream_slots() as usize) < streams {
         return Err(Rule::Room);
     }
     Ok(streams)
 }
 
-// The round in front: what it leaves the streams at, or the first rule that it breaks.
+// The round in front: its length and its start, with its packets sent on the streams; or the first rule that it breaks.
 pub fn check_round(
     setting: Setting,
     last: u32,
@@ -81,9 +81,7 @@ pub fn check_round(
         return Err(Rule::Packet);
     };
     let listed = header_checked(setting, last, &front)?;
-    if !streams.send_all(&front.numbers[..listed], front.start) {
-        return Err(Rule::Slots);
-    }
+    streams.send_all(&front.numbers[..listed], front.start)?;
     if !streams.none_due_by(front.start + 1) {
         return Err(Rule::Rest);
     }

@@ -1,10 +1,11 @@
 // The streams that a foreign plan has led to, which need not be those of a sound planner, and the slots of a round sent on them one after the other.
-ghost use Rattle.std.specs.Prelude.{◌≡◌, ◌≤◌};
+ghost use Rattle.std.specs.Prelude.{◌≡◌, ◌≤◌, length};
 ghost use Rattle.basics.specs.Decides.{Decides};
 ghost use Rattle.basics.specs.Limits.{places, last_start};
 ghost use Rattle.table.specs.Table.{records_of};
 ghost use Rattle.checker.specs.Needs.{CanShow, IsRowOf, IsSentOne, IsSentAll, NoneDue};
 
+use super::round_rules::Rule;
 use round_tests::{none_by_in_range, rides};
 use std::marker::Model;
 use table::{Record, Table};
@@ -34,12 +35,12 @@ impl Model for Streams {
     ghost invariant = { AreColumns };
 }
 
-// Hints for ids in the first places.
-fn hints_of(ids: &[u32; 64], count: usize) -> [u8; 1024]
-    requires { count ≤ places }
+// Hints for ids in their places.
+fn hints_of(ids: &[u32]) -> [u8; 1024]
+    requires { length ids.now ≤ places }
 {
     let mut hints = [0u8; 1024];
-    for (place, id) in ids[..count].iter().enumerate() {
+    for (place, id) in ids.iter().enumerate() {
         hints[(*id % 1024) as usize] = place as u8;
     }
     hints
@@ -54,7 +55,7 @@ impl Streams {
         // As a slice, whose length a proof knows.
         let _places: &[Record] = &table.streams;
         let ids = table.ids_in_range();
-        let hints = hints_of(&ids, table.count);
+        let hints = hints_of(&ids[..table.count]);
         Streams {
             count: table.count,
             ids,
@@ -82,32 +83,30 @@ impl Streams {
     }
 
     // One slot: the id is held and its packet may ride; its stream passes to the next packet.
-    fn send(&mut self, number: u16, start: u32) -> bool
+    fn send(&mut self, number: u16, start: u32) -> Result<(), Rule>
         requires { start ≤ last_start }
         ensures { IsSentOne self.old self.new number start result }
     {
         let Some(row) = self.row_of(number) else {
-            return false;
+            return Err(Rule::Slots);
         };
         let due = self.dues[row];
         if !rides(due, self.deadlines[row], start) {
-            return false;
+            return Err(Rule::Slots);
         }
         self.dues[row] = due + self.periods[row];
-        true
+        Ok(())
     }
 
     // All slots, in their order.
-    pub fn send_all(&mut self, listed: &[u16], start: u32) -> bool
+    pub fn send_all(&mut self, listed: &[u16], start: u32) -> Result<(), Rule>
         requires { start ≤ last_start }
         ensures { IsSentAll self.old self.new listed.now start result }
     {
         for number in listed {
-            if !self.send(*number, start) {
-                return false;
-            }
+            self.send(*number, start)?;
         }
-        true
+        Ok(())
     }
 
     // Whether no stream's next packet is due by the end of a round.

@@ -96,5 +96,9 @@ pub fn answer(planner: &Planner, command: Command) -> Answered
 pub fn malformed(planner: Planner, number: u64) -> Answered
     ensures { IsAnswered planner number None result }
 {
-    line_of_few(planner, b'E', &[Refusal::Malformed as u64, number])
+    line_of_few(
+        planner,
+        b'E',
+        &[u64::from(u32::from(Refusal::Malformed)), number],
+    )
 }

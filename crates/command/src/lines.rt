@@ -7,7 +7,8 @@ use super::print::ROOM;
 use super::step::step_in_range;
 use planner::Planner;
 
-// What has been reached: the planner, how many lines there were, the place in the input, and the place after what was written.
+// What has been reached: the planner, how many lines there were, the place in the input, and the place after what was written. Places are numbers, since
+// the contracts of `HasRun` and `IsStep` speak of them over whole buffers (Annex 11.24).
 #[derive(Clone, Copy)]
 pub struct Reached {
     pub planner: Planner,
@@ -23,7 +24,7 @@ fn first_end(bytes: &[u8]) -> Option<usize>
     bytes.iter().position(|byte| *byte == b'\n')
 }
 
-// The place of the first byte 10 from `from` on, or the length where there is none.
+// The place of the first byte 10 from `from` on, or the length where there is none, since a line ends there too (Annex 11.1, `IsLineEnd`).
 pub fn line_end_in_range(bytes: &[u8], from: usize) -> usize
     requires { from ≤ length bytes.now }
     ensures { IsLineEnd bytes.now from result }
@@ -35,6 +36,7 @@ pub fn line_end_in_range(bytes: &[u8], from: usize) -> usize
 }
 
 // Whole lines from `from` on, one after the other, until none is left or the buffer may be too short for the next answer.
+// A loop over places: an iterator over lines gives what no line end follows too, and keeps no place at which the caller goes on.
 pub fn run_lines_in_range(start: Reached, bytes: &[u8], out: &mut [u8]) -> Reached
     requires { CanRun start bytes.now out.old }
     ensures { HasRun start bytes.now out.old out.new result }

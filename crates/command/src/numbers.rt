@@ -29,7 +29,7 @@ fn has_leading_zero(digits: &[u8]) -> bool
     matches!(digits, [b'0', _, ..])
 }
 
-// The value of digits, if it fits 32 bits.
+// The value of digits, if it fits 32 bits. `str::parse` takes a text, whose UTF-8 would be looked at first, and a `+` in front of it.
 fn value_of_digits(digits: &[u8]) -> Option<u32>
     requires { EachIndex digits.now (λ k. IsDigit (slice_index digits.now k)) }
     ensures { IsValueOf digits.now result }

@@ -1,4 +1,4 @@
-// Lines of a letter and numbers, written at the front of a lent buffer. Each function answers how many bytes it wrote.
+// Lines of a letter and numbers, and how they are written at the front of a lent buffer: each `put` answers how many bytes it wrote.
 ghost use Rattle.std.specs.Prelude.{◌≡◌, [], ◌∷◌, ◌++◌, ◌+◌, ◌≤◌, ◌<◌, length, take};
 ghost use Rattle.command.specs.Text.{IsNumeral, IsFields};
 ghost use Rattle.command.specs.Puts.{IsPut, IsLine, AreLines, lines_of, AreFew, line_room, most_numbers, room};
@@ -9,7 +9,8 @@ pub const ROOM: usize = 1430;
 // The most numbers of a line.
 const MOST_NUMBERS: usize = 68;
 
-// The lines of an answer: one, of a letter and the first `count` values, in an array, since the library has no heap.
+// The lines of an answer: one, of a letter and the first `count` values. In an array, so that an answer is copied as a planner is: the kit's ArrayVec is
+// no Copy type.
 #[derive(Clone, Copy)]
 pub struct Lines {
     pub letter: u8,
@@ -48,6 +49,7 @@ impl Lines {
 }
 
 // A number in decimal: the digits before the last one are those of a tenth of it.
+// By hand, as `IsNumeral` states it (Annex 11.4): `write!` would need a writer of this buffer, and its error.
 fn put_number_in_range(out: &mut [u8], value: u64) -> usize
     requires { 20 ≤ length out.old }
     ensures { IsPut (λ bytes. IsNumeral bytes value × (length bytes ≤ 20)) out.old out.new 0 result }

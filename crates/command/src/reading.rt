@@ -11,7 +11,7 @@ const LONGEST_LINE: usize = 63;
 
 const MOST_FIELDS: usize = 4;
 
-// The numbers of a line's fields: the first `count` values, in an array, since the library has no heap.
+// The numbers of a line's fields: the first `count` values, in an array of as many as a command has at most.
 #[derive(Clone, Copy)]
 struct Fields {
     count: usize,
@@ -29,7 +29,7 @@ fn read_field(line: &[u8], at: usize) -> Option<Numeral>
     read_number(&line[at + 1..])
 }
 
-// The numbers of all fields of a line: each is read where the one before it ends.
+// The numbers of all fields of a line: each is read where the one before it ends, so a place is moved on by what was read.
 fn read_fields(line: &[u8]) -> Option<Fields>
     requires { (1 ≤ length line.now) × (length line.now ≤ longest_line) }
     ensures { IsReadFields line.now result }

@@ -8,7 +8,7 @@ use super::print::put_lines_in_range;
 use super::reading::parse;
 use planner::Planner;
 
-// The planner after a line, and the place after what was written.
+// The planner after a line, and the place after what was written, as a number: `IsStep` speaks of it over the whole buffer (Annex 11.21).
 #[derive(Clone, Copy)]
 pub struct Step {
     pub planner: Planner,

@@ -19,16 +19,13 @@ fn is_to_be_tried_again(rt: &impl Clock, error: &Error) -> bool {
 }
 
 // A line on standard error: what cannot go on, and the number of the last line answered.
-fn say(what: &[u8], number: u64) {
-    io::write_all(2, what);
-    io::write_all(2, b"; last line answered: ");
-    io::print_decimal(2, number);
-    io::write_all(2, b"\n");
+fn say(rt: &impl Eprint, what: &str, number: u64) {
+    let _ = eprintln!(rt; "{what}; last line answered: {number}");
 }
 
 // Says that no run goes on for ever.
-pub fn say_used_up(number: u64) {
-    say(b"the turns of one run are used up", number);
+pub fn say_used_up(rt: &impl Eprint, number: u64) {
+    say(rt, "the turns of one run are used up", number);
 }
 
 // Reads at least one byte, and answers how many; 0 where the input has ended, an error where the read failed.
@@ -45,14 +42,18 @@ fn read_some<R: Input + Clock>(rt: &R, buffer: &mut [u8]) -> Result<usize>
     Err(Error::from(ErrorKind::TimedOut))
 }
 
-// How many bytes were read, 0 where the input has ended. A read that failed is said, and delivers none.
-pub fn read_input<R: Input + Clock>(rt: &R, buffer: &mut [u8], number: u64) -> Option<usize>
+// How many bytes were read, 0 where the input has ended, as `read` of std answers. A read that failed is said, and delivers none.
+pub fn read_input<R: Input + Eprint + Clock>(
+    rt: &R,
+    buffer: &mut [u8],
+    number: u64,
+) -> Option<usize>
     ensures { IfSome result (λ n. n ≤ length buffer.old) }
 {
     match read_some(rt, buffer) {
         Ok(count) => Some(count),
         Err(_) => {
-            say(b"standard input cannot be read on", number);
+            say(rt, "standard input cannot be read on", number);
             None
         }
     }
@@ -89,13 +90,14 @@ fn line_ends(bytes: &[u8]) -> u64 {
     bytes.iter().filter(|byte| **byte == b'\n').count() as u64
 }
 
-// Writes answers, the last of them to line `number`, and answers whether all were written. A line counts as answered once its answer is written with its end.
-pub fn write_answers<R: Print + Clock>(rt: &R, answers: &[u8], number: u64) -> bool {
+// Writes answers, the last of them to line `number`, and answers whether all were written: the caller needs no more, since an error is said here. A line
+// counts as answered once its answer is written with its end.
+pub fn write_answers<R: Print + Eprint + Clock>(rt: &R, answers: &[u8], number: u64) -> bool {
     let left = write_most(rt, answers);
     if left.is_empty() {
         return true;
     }
     let answered = number.saturating_sub(line_ends(left));
-    say(b"standard output cannot be written on", answered);
+    say(rt, "standard output cannot be written on", answered);
     false
 }

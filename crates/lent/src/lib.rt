@@ -1,4 +1,4 @@
-// The planner that the firmware keeps and lends to each call, to be changed, or by check to be read: thin forms over the calls by value, exported to C.
+// The planner that the firmware keeps and lends to each call, to be changed, or by check to be read: thin forms over the calls by value. The crate lent_c exports them to C.
 // A refused call stores nothing (Annex 7.37, 13.6): add, remove, send and round store the planner only where the answer is 0; open stores always, and
 // check never (Annex 14.16).
 // Each calls the form by value, which docs/DECISIONS.md asks for (the table of forms).
@@ -9,10 +9,10 @@ ghost use Rattle.std.specs.Prelude.{◌≡◌, length, take};
 ghost use Rattle.basics.specs.Version.{version};
 ghost use Rattle.state.specs.Open.{setting};
 ghost use Rattle.planner.specs.AddRemove.{offer};
-ghost use Rattle.lent.specs.Lent.{IsLentOpen, IsLentAdd, IsLentRemove, IsLentSend, IsLentRound, IsLentCheck};
+ghost use Rattle.lent.specs.Lent.{IsLentOpen, IsLentAdd, IsLentRemove, IsLentSend, IsLentRound, IsLentCheck, IsKept, held_of};
 
 use checker::Verdict;
-use planner::Planner;
+use planner::{Changed, Planner, Rounded};
 
 // What a round answers beside the planner: its start and the count of numbers written, both 0 if refused.
 // The C interface: the header's struct has the same fields in the same order.
@@ -22,6 +22,18 @@ pub struct Held {
     pub answer: u32,
     pub start: u32,
     pub n: u32,
+}
+
+impl From<&Rounded> for Held {
+    ghost from_gives = { λ rounded held. held ≡ held_of rounded.now };
+
+    fn from(rounded: &Rounded) -> Held {
+        Held {
+            answer: rounded.answer,
+            start: rounded.start,
+            n: rounded.n,
+        }
+    }
 }
 
 // Opens the lent planner, whatever it held; the answer is that of open.
@@ -40,37 +52,41 @@ pub fn planner_open(
     opened.answer
 }
 
+// The planner that a change made is stored where the answer is 0; the answer is that of the change.
+fn kept(p: &mut Planner, changed: &Changed) -> u32
+    ensures { IsKept p.old changed.now p.new result }
+{
+    if changed.answer == 0 {
+        *p = changed.planner;
+    }
+    changed.answer
+}
+
 // Adds a stream to the lent planner; the answer is that of add.
+#[tactic(auto, using(crate::proofs::Facts::kept_change))]
 pub fn planner_add(p: &mut Planner, id: u32, start: u32, period: u32, deadline: u32) -> u32
     ensures { IsLentAdd p.old (offer id start period deadline) p.new result }
 {
     let added = planner::add(*p, id, start, period, deadline);
-    if added.answer == 0 {
-        *p = added.planner;
-    }
-    added.answer
+    kept(p, &added)
 }
 
 // Takes a stream out of the lent planner; the answer is that of remove.
+#[tactic(auto, using(crate::proofs::Facts::kept_change))]
 pub fn planner_remove(p: &mut Planner, id: u32) -> u32
     ensures { IsLentRemove p.old id p.new result }
 {
     let removed = planner::remove(*p, id);
-    if removed.answer == 0 {
-        *p = removed.planner;
-    }
-    removed.answer
+    kept(p, &removed)
 }
 
 // Has a message wait in the lent planner; the answer is that of send.
+#[tactic(auto, using(crate::proofs::Facts::kept_change))]
 pub fn planner_send(p: &mut Planner, number: u32) -> u32
     ensures { IsLentSend p.old number p.new result }
 {
     let sent = planner::send(*p, number);
-    if sent.answer == 0 {
-        *p = sent.planner;
-    }
-    sent.answer
+    kept(p, &sent)
 }
 
 // Holds a round of the lent planner, and writes its ids and messages into the buffer; the answer is that of round.
@@ -81,11 +97,7 @@ pub fn planner_round(p: &mut Planner, buffer: &mut [u16]) -> Held
     if rounded.answer == 0 {
         *p = rounded.planner;
     }
-    Held {
-        answer: rounded.answer,
-        start: rounded.start,
-        n: rounded.n,
-    }
+    Held::from(&rounded)
 }
 
 // Checks a plan that somebody else made from the lent planner on, and stores nothing in either; the answer is that of check.

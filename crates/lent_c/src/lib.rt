@@ -1,4 +1,5 @@
 // The planner for C: the forms of `lent` over a planner that the firmware keeps, exported under their clauses.
+// A crate of its own: the toolchain builds a crate as a library or for C.
 #![tactic(auto)]
 
 ghost use Rattle.std.specs.Prelude.{◌≡◌, length, take};

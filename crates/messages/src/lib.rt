@@ -2,6 +2,7 @@
 #![tactic(auto)]
 
 ghost use Rattle.std.specs.Prelude.{◌≡◌, [], ◌∷◌, ◌++◌, ◌+◌, ◌≤◌, ◌<◌, take, drop};
+ghost use Rattle.std.specs.List.{All};
 ghost use Rattle.basics.specs.Decides.{Decides};
 ghost use Rattle.basics.specs.Limits.{most_slots, most_waiting};
 ghost use Rattle.messages.specs.Waiting.{IsMessage, waiting_of, no_waiting};
@@ -18,13 +19,13 @@ pub struct Waiting {
     pub numbers: [u16; 32],
 }
 
-// Nothing waits, and every place is zero.
+// Nothing waits, and every place is zero. Written out: `Default` promises an array place by place, and `no_waiting` is one value.
 pub fn none() -> Waiting
     ensures { result ≡ no_waiting }
 {
     Waiting {
         count: 0,
-        numbers: [0u16; 32],
+        numbers: [0; 32],
     }
 }
 
@@ -33,6 +34,13 @@ pub fn is_message(number: u32) -> bool
     ensures { Decides result (IsMessage number) }
 {
     (LEAST_MESSAGE..=LARGEST_MESSAGE).contains(&number)
+}
+
+// Whether each number is that of a message.
+pub fn all_messages(numbers: &[u16]) -> bool
+    ensures { Decides result (All IsMessage numbers.now) }
+{
+    numbers.iter().all(|number| is_message(u32::from(*number)))
 }
 
 // Whether at most `most` numbers wait, and no more than there are places, each of them a message, on any value whatever.
@@ -45,12 +53,10 @@ pub fn in_range(w: Waiting, most: u32) -> bool
     if most < w.count {
         return false;
     }
-    w.numbers[..w.count as usize]
-        .iter()
-        .all(|number| is_message(u32::from(*number)))
+    all_messages(&w.numbers[..w.count as usize])
 }
 
-// A number joins behind those that wait.
+// A number joins behind those that wait. That at most 32 do is asked of each call and is no invariant of `Waiting`: C can hand over any count.
 pub fn put_last_in_range(w: Waiting, number: u16) -> Waiting
     requires { w.count < most_waiting }
     ensures { HasWaiting (waiting_of w ++ (number ∷ [])) result }
@@ -69,7 +75,7 @@ fn without_first_in_range(w: Waiting, n: u32) -> Waiting
     ensures { HasWaiting (drop n (waiting_of w)) result }
 {
     let left = w.count - n;
-    let mut numbers = [0u16; 32];
+    let mut numbers = none().numbers;
     numbers[..left as usize].copy_from_slice(&w.numbers[n as usize..w.count as usize]);
     Waiting {
         count: left,
@@ -78,7 +84,7 @@ fn without_first_in_range(w: Waiting, n: u32) -> Waiting
 }
 
 // What a round lists, in the first n places, and the messages that it leaves waiting.
-// No heap: a list that is handed out stands in an array of fixed size, with its length.
+// No heap: a list that is handed out stands in an array of fixed size, with its length, as `IsListing` promises it.
 #[derive(Clone, Copy)]
 pub struct Listed {
     pub numbers: [u16; 64],

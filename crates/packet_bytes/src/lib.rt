@@ -16,7 +16,7 @@ pub fn write_header_in_room(packet: &mut [u8], start: u32, slots: u8, n: u8)
 }
 
 // The ids from the front of the part on; later bytes stay.
-pub fn write_ids_in_room<'a>(part: &'a mut [u8], ids: &'a [u16])
+pub fn write_ids_in_room(part: &mut [u8], ids: &[u16])
     requires { 2 * length ids.now ≤ length part.old }
     ensures { part.new ≡ id_bytes ids.now ++ drop (2 * length ids.now) part.old }
 {
@@ -34,14 +34,15 @@ pub fn start_of_header(packet: &[u8]) -> u32
 }
 
 // The ids in a part of n pairs of bytes, in the first n places: no good packet has more than 64.
-// An array with n beside it, since the libraries use no heap.
+// No heap: an array. The promise alone names n, the places that count; the checker and the reader of packets cite it.
 pub fn ids_of_pairs(part: &[u8], n: usize) -> [u16; 64]
     requires { (length part.now ≡ 2 * n) × (n ≤ most_read) }
     ensures { take n result ≡ ids_in part.now }
 {
     let mut ids = [0; 64];
-    for k in 0..n {
-        ids[k] = u16::from_be_bytes([part[2 * k], part[2 * k + 1]]);
+    let (pairs, _) = part.as_chunks();
+    for (k, pair) in pairs.iter().enumerate() {
+        ids[k] = u16::from_be_bytes(*pair);
     }
     ids
 }

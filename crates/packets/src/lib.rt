@@ -27,7 +27,15 @@ pub struct Header {
     pub n: u32,
 }
 
-// Whether values are those of a good packet.
+// What the header of a good packet says.
+#[derive(Clone, Copy)]
+struct Front {
+    start: u32,
+    slots: u32,
+    n: u32,
+}
+
+// Whether values are those of a good packet. The C interface: start, B and ids are apart, as a host hands them to `packet_write`.
 pub fn are_good(start: u32, slots: u32, ids: &[u16]) -> bool
     ensures { Decides result (IsGood (record { start = start; slots = slots; ids = ids.now })) }
 {
@@ -59,15 +67,16 @@ fn write(start: u32, slots: u32, ids: &[u16], packet: &mut [u8]) -> Result<(), R
 }
 
 // Annex 10.4, 10.5: writes a packet; 27 for a value that is not good, 28 for a buffer too short, both with nothing written.
-pub fn packet_write<'a>(start: u32, slots: u32, ids: &'a [u16], packet: &'a mut [u8]) -> u32
+pub fn packet_write(start: u32, slots: u32, ids: &[u16], packet: &mut [u8]) -> u32
     ensures { IsWritten (record { start = start; slots = slots; ids = ids.now }) packet.old packet.new result }
 {
     answer(write(start, slots, ids, packet))
 }
 
-// Reads a packet. Numbers past the largest B are not read: no good packet has so many. A call of it would hand its result over in memory.
+// Reads a packet. Numbers past the largest B are not read: no good packet has so many.
+// Inlined: a call would hand its result over through memory.
 #[inline(always)]
-fn read(packet: &[u8]) -> Result<Header, Refusal>
+fn read(packet: &[u8]) -> Result<Front, Refusal>
     ensures { IsReading packet.now result }
 {
     if packet.len() < 6 {
@@ -86,8 +95,7 @@ fn read(packet: &[u8]) -> Result<Header, Refusal>
     if !are_good(start, slots, &ids[..n]) {
         return Err(Refusal::BadValues);
     }
-    Ok(Header {
-        answer: 0,
+    Ok(Front {
         start,
         slots,
         n: n as u32,
@@ -99,7 +107,12 @@ pub fn packet_read(packet: &[u8]) -> Header
     ensures { IsRead packet.now result }
 {
     match read(packet) {
-        Ok(header) => header,
+        Ok(front) => Header {
+            answer: 0,
+            start: front.start,
+            slots: front.slots,
+            n: front.n,
+        },
         Err(refusal) => Header {
             answer: u32::from(refusal),
             start: 0,

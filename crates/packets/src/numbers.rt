@@ -2,24 +2,17 @@
 ghost use Rattle.basics.specs.Decides.{Decides};
 ghost use Rattle.basics.specs.Limits.{largest_id};
 ghost use Rattle.basics.specs.OneTo.{OneTo};
-ghost use Rattle.packets.specs.Good.{AreMessages, NumbersGood};
+ghost use Rattle.packets.specs.Good.{NumbersGood};
 
 use crate::ids::is_met;
 use basics::{LARGEST_ID, is_one_to};
-use messages::is_message;
+use messages::all_messages;
 
 // Whether a number is the id of a stream.
 fn is_id(number: u16) -> bool
     ensures { Decides result (OneTo largest_id number) }
 {
     is_one_to(u32::from(number), LARGEST_ID)
-}
-
-// Whether each number is a message.
-fn all_messages(numbers: &[u16]) -> bool
-    ensures { Decides result (AreMessages numbers.now) }
-{
-    numbers.iter().all(|number| is_message(u32::from(*number)))
 }
 
 // The ids are looked at one by one; from the first number on that is none, all must be messages.

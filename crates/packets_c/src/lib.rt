@@ -1,4 +1,4 @@
-// The packets for C: the calls of the library, exported under their clauses.
+// The packets for C: the calls of the library, exported under their clauses. A crate of its own, since a crate is built as a library or for C.
 #![tactic(auto)]
 
 ghost use Rattle.std.specs.Prelude.{◌≡◌, length};
@@ -10,12 +10,7 @@ use packets::Header;
 
 // Annex 10.4, 10.5: writes a packet; 27 for a value that is not good, 28 for a buffer too short, both with nothing written.
 #[unsafe(no_mangle)]
-pub extern "C" fn packet_write<'a>(
-    start: u32,
-    slots: u32,
-    ids: &'a [u16],
-    packet: &'a mut [u8],
-) -> u32
+pub extern "C" fn packet_write(start: u32, slots: u32, ids: &[u16], packet: &mut [u8]) -> u32
     ensures { IsWritten (record { start = start; slots = slots; ids = ids.now }) packet.old packet.new result }
 {
     packets::packet_write(start, slots, ids, packet)

@@ -7,11 +7,18 @@ ghost use Rattle.places.specs.Changes.{IsPlaceOf, IsNowhere, PlaceFits, KeyFits}
 use crate::Places;
 use basics::{KEY_SPAN_64, LARGEST_KEY_64, PLACES};
 
-// The place of an id; of id 0, the first free place.
+// The place of an id.
 pub fn place_of(ids: &[u16; 64], id: u32) -> Option<usize>
     ensures { MatchOption result (IsNowhere ids.now id) (IsPlaceOf ids.now id) }
 {
     ids.iter().position(|there| u32::from(*there) == id)
+}
+
+// The first free place: there the id is 0.
+pub fn first_free(ids: &[u16; 64]) -> Option<usize>
+    ensures { MatchOption result (IsNowhere ids.now 0) (IsPlaceOf ids.now 0) }
+{
+    place_of(ids, 0)
 }
 
 // The place that holds an id; id 0 stands at free places, so none holds it.
@@ -24,7 +31,7 @@ pub fn place_holding(ids: &[u16; 64], id: u32) -> Option<usize>
     place_of(ids, id)
 }
 
-impl<'a> Places<'a> {
+impl Places<'_> {
     // Whether the key at place i leaves `key` within the span.
     fn fits_at(self, out: Option<usize>, key: u64, i: usize) -> bool
         requires { i < places }

@@ -7,7 +7,9 @@ ghost use Rattle.places.specs.Lent.{as_entry, row_in, CanFileRows, IsRowAt, IsNo
 use crate::{Entry, Places};
 use basics::{PLACES, place_among_rising};
 
-// Rows of key, release and id in ascending id, the first `count` of 64, lent column by column. The look-up by halving goes over all 64 ids.
+// Rows of key, release and id in ascending id, the first `count` of 64, lent column by column. Ids have 32 bits here and 16 at places: a table's
+// rise past its streams to numbers that no id has (`CanFile`). The look-up by halving goes over all 64 ids and no slice of `count`, so that its steps
+// are fixed in number.
 #[derive(Clone, Copy)]
 pub struct Rows<'a> {
     pub ids: &'a [u32; 64],
@@ -16,7 +18,7 @@ pub struct Rows<'a> {
     pub count: usize,
 }
 
-impl<'a> Rows<'a> {
+impl Rows<'_> {
     fn row(self, i: usize) -> Entry
         requires { i < places }
         ensures { as_entry result ≡ row_in self.entry i }
@@ -29,7 +31,7 @@ impl<'a> Rows<'a> {
     }
 }
 
-impl<'a> Places<'a> {
+impl Places<'_> {
     // Which of the rows stands at place x.
     fn row_at(self, rows: Rows, x: usize) -> Option<usize>
         requires small { x < places }

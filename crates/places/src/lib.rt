@@ -7,7 +7,7 @@ ghost use Rattle.std.specs.Prelude.{◌≡◌, ◌<◌};
 ghost use Rattle.basics.specs.Limits.{places};
 ghost use Rattle.places.specs.Lent.{as_entry, entry_in};
 
-pub use changes::{place_holding, place_of};
+pub use changes::{first_free, place_holding, place_of};
 pub use filing::Rows;
 
 mod changes;
@@ -30,7 +30,7 @@ pub struct Places<'a> {
     pub releases: &'a [u32; 64],
 }
 
-impl<'a> Places<'a> {
+impl Places<'_> {
     // What stands at place x, an entry unless the place is free.
     pub fn entry_at(self, x: usize) -> Entry
         requires { x < places }

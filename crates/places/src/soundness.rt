@@ -16,48 +16,52 @@ fn is_within(id: u16, value: u32, top: u32) -> bool
     id < 1 || value <= top
 }
 
-impl<'a> Places<'a> {
+impl Places<'_> {
     // Whether no id is above 32,767.
     fn ids_in_range(self) -> bool
         ensures { Decides result (Below places (λ i. at self.entry.ids.now i ≤ largest_id)) }
     {
-        (0..PLACES).all(|i| self.ids[i] <= LARGEST_ID_16)
+        let ids = self.ids; // A field that is a reference is not lent again.
+        ids.iter().all(|id| *id <= LARGEST_ID_16)
     }
 
     // Whether no id stands at two places.
     fn ids_differ(self) -> bool
         ensures { Decides result (Below places (New (at self.entry.ids.now))) }
     {
-        for i in 0..PLACES {
-            if !is_new_at(self.ids, i) {
-                return false;
-            }
-        }
-        true
+        (0..PLACES).all(|i| is_new_at(self.ids, i))
     }
 
     // Whether no entry has a key above the one bound.
     fn keys_are_within(self, top: u32) -> bool
         ensures { Decides result (KeysWithin (at self.entry.ids.now) (at self.entry.keys.now) top) }
     {
-        (0..PLACES).all(|i| is_within(self.ids[i], self.keys[i], top))
+        let (ids, keys) = (self.ids, self.keys);
+        ids.iter()
+            .zip(keys)
+            .all(|(id, key)| is_within(*id, *key, top))
     }
 
     // Whether no entry has a release above its key.
     fn releases_are_within(self) -> bool
         ensures { Decides result (AllWithin (at self.entry.ids.now) (at self.entry.releases.now) (at self.entry.keys.now)) }
     {
-        (0..PLACES).all(|i| is_within(self.ids[i], self.releases[i], self.keys[i]))
+        let (ids, releases, keys) = (self.ids, self.releases, self.keys);
+        ids.iter()
+            .zip(releases)
+            .zip(keys)
+            .all(|((id, release), key)| is_within(*id, *release, *key))
     }
 
     // The limit on keys where no place holds an entry, which leaves room for the span above it.
     pub fn least_key(self) -> u32
         ensures { IsLeast (at self.entry.ids.now) (at self.entry.keys.now) places result }
     {
+        let (ids, keys) = (self.ids, self.keys);
         let mut least = LARGEST_KEY;
-        for i in 0..PLACES {
-            if 0 < self.ids[i] {
-                least = least.min(self.keys[i]);
+        for (id, key) in ids.iter().zip(keys) {
+            if 0 < *id {
+                least = least.min(*key);
             }
         }
         least

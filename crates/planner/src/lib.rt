@@ -3,11 +3,11 @@
 #![tactic(auto)]
 
 ghost use Rattle.std.specs.Prelude.{◌≡◌, take};
-ghost use Rattle.planner.specs.AddRemove.{offer, IsAdd, IsRemove};
+ghost use Rattle.planner.specs.AddRemove.{offer, IsAdd, IsRemove, changed_by};
 ghost use Rattle.planner.specs.Send.{IsSend};
 ghost use Rattle.planner.specs.Round.{IsRound};
 
-use basics::answer;
+use basics::{Refusal, answer};
 use offers::take_in;
 use removal::take_out;
 use rounds::hold;
@@ -46,6 +46,16 @@ pub struct Rounded {
     pub n: u32,
 }
 
+// What a change answers by its outcome, and the planner after it.
+fn changed_by(outcome: Result<(), Refusal>, planner: Planner) -> Changed
+    ensures { result ≡ changed_by outcome planner }
+{
+    Changed {
+        answer: answer(outcome),
+        planner,
+    }
+}
+
 // Annex 7.10 to 7.20: takes a stream in, whose first packet is released at `start`.
 pub fn add(mut p: Planner, id: u32, start: u32, period: u32, deadline: u32) -> Changed
     ensures { IsAdd p (offer id start period deadline) result }
@@ -57,10 +67,7 @@ pub fn add(mut p: Planner, id: u32, start: u32, period: u32, deadline: u32) -> C
         deadline,
     };
     let outcome = take_in(&mut p, offer);
-    Changed {
-        answer: answer(outcome),
-        planner: p,
-    }
+    changed_by(outcome, p)
 }
 
 // Annex 7.22, 7.23: takes a stream out, and its waiting packet with it.
@@ -68,10 +75,7 @@ pub fn remove(mut p: Planner, id: u32) -> Changed
     ensures { IsRemove p id result }
 {
     let outcome = take_out(&mut p, id);
-    Changed {
-        answer: answer(outcome),
-        planner: p,
-    }
+    changed_by(outcome, p)
 }
 
 // Annex 7.41 to 7.45: a message joins those that wait.
@@ -79,10 +83,7 @@ pub fn send(mut p: Planner, number: u32) -> Changed
     ensures { IsSend p number result }
 {
     let outcome = let_wait(&mut p, number);
-    Changed {
-        answer: answer(outcome),
-        planner: p,
-    }
+    changed_by(outcome, p)
 }
 
 // Annex 7.24 to 7.32, 7.46, 7.47: holds the next round; its ids, and behind them messages, go to the first n elements of the buffer.

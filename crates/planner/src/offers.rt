@@ -1,4 +1,6 @@
 // A stream offered to a planner: whether it is refused, and the planner that takes it in.
+// Planner and offer are passed side by side: so `IsAdd` and the facts `CanTest` and `CanAdd` name them, and a struct of the two would end at `take_in`,
+// which writes to the planner.
 ghost use Rattle.std.specs.Prelude.{◌≡◌, ◌∷◌, OnOk, IfOk};
 ghost use Rattle.basics.specs.Answers.{answer};
 ghost use Rattle.basics.specs.Refusals.{answer_of};
@@ -20,7 +22,7 @@ fn offer_refusal_sound(p: &Planner, offer: Offer) -> Result<(), Refusal>
     ensures answers { answer result ≡ answer_of (offer_refusals (content p.now) offer) }
     ensures passed { OnOk result (CanTest p.now offer) }
 {
-    // As a slice, whose length a proof knows.
+    // As a slice, whose length a proof knows: of an array in a struct behind a reference it has no such fact.
     let _places: &[Record] = &p.table.streams;
     if !is_one_to(offer.id, LARGEST_ID) {
         return Err(Refusal::BadId);
@@ -59,7 +61,7 @@ fn table_with_sound(p: &Planner, offer: Offer) -> Table
     requires { CanTest p.now offer }
     ensures { HasRecords (added (content p.now) offer).table result }
 {
-    // As a slice, whose length a proof knows.
+    // As a slice, whose length a proof knows: of an array in a struct behind a reference it has no such fact.
     let _places: &[Record] = &p.table.streams;
     let mut table = p.table;
     table.put_in_range(Record {

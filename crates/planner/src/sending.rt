@@ -15,7 +15,7 @@ fn send_refusal(p: &Planner, number: u32) -> Result<(), Refusal>
     ensures answers { answer result ≡ answer_of (send_refusals p.now number) }
     ensures passed { OnOk result (CanSend p.now number) }
 {
-    // As a slice, whose length a proof knows.
+    // As a slice, whose length a proof knows: of an array in a struct behind a reference it has no such fact.
     let _numbers: &[u16] = &p.waiting.numbers;
     sound_start(p).ok_or(Refusal::NotSound)?;
     if !messages::is_message(number) || p.setting.messages == 0 {

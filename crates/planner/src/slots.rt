@@ -12,7 +12,7 @@ use state::Planner;
 use table::Record;
 
 // The ids chosen for a round, in the first n places, beside each its place in the queue, and its stream's row in the table.
-// Not one array of a struct: the queue takes ids and places, and the messages the ids, as arrays of their own.
+// Columns with a count, by the rule no heap: so the ids are copied as they stand into the round's list, and behind them the messages.
 #[derive(Clone, Copy)]
 pub struct Chosen {
     pub placed: Placed,
@@ -58,11 +58,10 @@ pub fn choose_sound(p: &Planner, start: u32) -> Chosen
     let order = p.queue.in_order_sound(p.table.count);
     let ids = p.table.ids_in_range();
     let mut chosen = Chosen::none();
-    for i in 0..p.table.count {
+    for (i, &id) in order.ids[..p.table.count].iter().enumerate() {
         if chosen.n == slots {
             return chosen;
         }
-        let id = order.ids[i];
         let row = basics::place_among_rising(&ids, u32::from(id));
         if streams[row].release <= start {
             chosen.push(id, order.places[i], row);
@@ -76,11 +75,10 @@ pub fn serve_sound(p: &mut Planner, chosen: &Chosen, start: u32, left: Waiting)
     requires { CanServeAll p.old start chosen.now × IsLeft (content p.old) start left }
     ensures { IsSoundWith (left_at (content p.old) start) p.new }
 {
-    // As a slice, whose length a proof knows.
+    // As a slice, whose length a proof knows: of an array in a struct behind a reference it has no such fact.
     let _places: &[Record] = &p.table.streams;
     let mut periods = [0; 64];
-    for k in 0..chosen.n {
-        let row = chosen.rows[k];
+    for (k, &row) in chosen.rows[..chosen.n].iter().enumerate() {
         let stream = p.table.streams[row];
         periods[k] = stream.period;
         p.table.streams[row] = stream.at_next_packet_in_range();

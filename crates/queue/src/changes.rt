@@ -7,16 +7,16 @@ ghost use Rattle.queue.specs.Calls.{moved, HasEntries};
 ghost use Rattle.queue.specs.Linking.{CanInsert, CanDelete, CanMove, CanMoveAt, IsMovedAt};
 
 use crate::Queue;
-use places::{Entry, place_of};
+use places::{Entry, first_free, place_of};
 
 impl Queue {
-    // Files an id at the first free place.
+    // Files an id at the first free place. Three numbers and no `Entry`: so the planner calls it.
     pub fn insert_sound(&mut self, id: u32, key: u32, release: u32)
         requires { CanInsert self.old (triple key release id) }
         ensures { HasEntries self.new (put (triple key release id) (entries self.old)) }
     {
         let entry = Entry { key, release, id };
-        let x = place_of(&self.ids, 0).unwrap();
+        let x = first_free(&self.ids).unwrap();
         let n = self.position_sound(entry);
         self.put_before(x, entry, n);
     }

@@ -9,6 +9,7 @@ use places::Rows;
 
 impl Queue {
     // Whether a queue is sound and files just the first `count` rows. They are within the bounds of a queue, so the links alone are left to test.
+    // Columns and no `Rows`: so the layer above calls it.
     pub fn is_sound_filing_in_range(
         &self,
         ids: &[u32; 64],

@@ -15,18 +15,20 @@ ghost use Rattle.queue.specs.Layout.{entry_at, entries, empty_queue, Sound};
 ghost use Rattle.queue.specs.Calls.{insert_refusals, delete_refusals, move_refusals, moved, IsChange, least_of, next_of};
 ghost use Rattle.queue.specs.Linking.{ArePlacesOf, IsTried, found_of};
 
-use basics::{LARGEST_ID, PLACES, Refusal, answer, is_one_to};
-use places::{Entry, Places, place_holding, place_of};
+use basics::{PLACES, Refusal, answer};
+use places::{Entry, Places};
 
 mod changes;
 mod filing;
 mod links;
 mod moves;
 mod order;
+mod refusals;
 mod search;
 mod soundness;
 
 // Places 0 to 63 hold entries, id 0 where a place is free; node 64 + b is the head of bucket b. `next` and `prev` link the nodes.
+// The C interface: the header's struct has the same fields in the same order.
 #[repr(C)]
 #[derive(Clone, Copy)]
 pub struct Queue {
@@ -77,6 +79,7 @@ impl From<Result<Entry, Refusal>> for Found {
 }
 
 // Entries of a queue, by their ids, and beside each the place at which the queue has it. What a place is stays inside the queue.
+// How many count is told beside them, as the size of the table or of the part chosen: `IsInOrder`, `CanMoveAll`.
 #[derive(Clone, Copy)]
 pub struct Placed {
     pub ids: [u16; 64],
@@ -88,6 +91,7 @@ pub fn empty() -> Queue
     ensures { result ≡ empty_queue }
 {
     let mut links = [0u16; 544];
+    // By index: enumerate would have to skip the places.
     for x in PLACES..544 {
         links[x] = x as u16;
     }
@@ -107,6 +111,7 @@ pub fn is_sound(q: Queue) -> bool
     q.is_sound()
 }
 
+// `Sound` is in the `requires` of each _sound method and no invariant of the type: a call takes any value whatever (Annex 8.4).
 impl Queue {
     // The entries at the places, without their links.
     fn places(&self) -> Places<'_>
@@ -127,65 +132,13 @@ impl Queue {
         self.places().entry_at(x)
     }
 
-    // The first refusal of insert that applies, if any.
-    fn may_insert(&self, id: u32, key: u32, release: u32) -> Result<(), Refusal>
-        ensures { answer result ≡ answer_of (insert_refusals self.now id key release) }
+    // Three changes in place; refused, they leave the queue as it was. One function over a closure would say no less: the refusals and the
+    // entries after it are each change's own.
+    fn insert(&mut self, entry: Entry) -> Result<(), Refusal>
+        ensures { IsTried (insert_refusals self.old entry.id entry.key entry.release) self.old (put (as_entry entry) (entries self.old)) (answer result) self.new }
     {
-        if !self.is_sound() {
-            return Err(Refusal::NotSound);
-        }
-        if !is_one_to(id, LARGEST_ID) {
-            return Err(Refusal::BadId);
-        }
-        if place_of(&self.ids, 0).is_none() {
-            return Err(Refusal::QueueFull);
-        }
-        if place_holding(&self.ids, id).is_some() {
-            return Err(Refusal::Filed);
-        }
-        if key < release || !self.places().key_fits(None, u64::from(key)) {
-            return Err(Refusal::OutOfBounds);
-        }
-        Ok(())
-    }
-
-    // The first refusal of delete that applies, if any.
-    fn may_delete(&self, id: u32) -> Result<(), Refusal>
-        ensures { answer result ≡ answer_of (delete_refusals self.now id) }
-    {
-        if !self.is_sound() {
-            return Err(Refusal::NotSound);
-        }
-        if place_holding(&self.ids, id).is_none() {
-            return Err(Refusal::NotFiled);
-        }
-        Ok(())
-    }
-
-    // The first refusal of move that applies, if any. The sum of key and amount is taken in 64 bits: it may pass 32. A release stays as far below
-    // its key as it was.
-    fn may_move(&self, id: u32, amount: u32) -> Result<(), Refusal>
-        ensures { answer result ≡ answer_of (move_refusals self.now id amount) }
-    {
-        if !self.is_sound() {
-            return Err(Refusal::NotSound);
-        }
-        let Some(x) = place_holding(&self.ids, id) else {
-            return Err(Refusal::NotFiled);
-        };
-        let key = u64::from(self.keys[x]) + u64::from(amount);
-        if !self.places().key_fits(Some(x), key) {
-            return Err(Refusal::OutOfBounds);
-        }
-        Ok(())
-    }
-
-    // A change in place; refused, it leaves the queue as it was.
-    fn insert(&mut self, id: u32, key: u32, release: u32) -> Result<(), Refusal>
-        ensures { IsTried (insert_refusals self.old id key release) self.old (put (triple key release id) (entries self.old)) (answer result) self.new }
-    {
-        self.may_insert(id, key, release)?;
-        self.insert_sound(id, key, release);
+        self.may_insert(entry)?;
+        self.insert_sound(entry.id, entry.key, entry.release);
         Ok(())
     }
 
@@ -219,7 +172,7 @@ impl Queue {
 pub fn insert(mut q: Queue, id: u32, key: u32, release: u32) -> Changed
     ensures { IsChange (insert_refusals q id key release) q (put (triple key release id) (entries q)) result }
 {
-    let answer = answer(q.insert(id, key, release));
+    let answer = answer(q.insert(Entry { key, release, id }));
     Changed { answer, queue: q }
 }
 

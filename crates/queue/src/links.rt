@@ -24,23 +24,24 @@ pub fn head_of(key: u32) -> usize
     PLACES + bucket_of_key(key)
 }
 
-// Release and id as one number, by which the entries of a bucket stand.
+// Release and id as one number, by which the entries of a bucket stand. The entries themselves are not compared: neither `IsPosition` nor
+// `IsNewRank` says that the bucket's key is the entry's, or that its id is at most 32,767.
 fn rank_of(entry: Entry) -> u64
     ensures { result ≡ rank entry.release entry.id }
 {
     if entry.id < 1 {
         return 0;
     }
-    (entry.release as u64) * 32768 + (entry.id as u64)
+    u64::from(entry.release) * 32768 + u64::from(entry.id)
 }
 
 impl Queue {
-    // The node that a node's list goes on with.
+    // The node that a node's list goes on with. A node is a plain number, as it is stored for C, so that it is below 544 is asked where it is read.
     pub fn next_of(&self, x: usize) -> usize
         requires { x < 544 }
         ensures { result ≡ next_at self.now x }
     {
-        self.next[x] as usize
+        usize::from(self.next[x])
     }
 
     // The node that it comes from.
@@ -48,7 +49,7 @@ impl Queue {
         requires { x < 544 }
         ensures { result ≡ prev_at self.now x }
     {
-        self.prev[x] as usize
+        usize::from(self.prev[x])
     }
 
     // An entry put at a free place x, before the node n.
@@ -61,7 +62,7 @@ impl Queue {
         self.keys[x] = entry.key;
         self.releases[x] = entry.release;
         let p = self.prev[n];
-        self.next[p as usize] = x as u16;
+        self.next[usize::from(p)] = x as u16;
         self.next[x] = n as u16;
         self.prev[n] = x as u16;
         self.prev[x] = p;
@@ -74,8 +75,8 @@ impl Queue {
     {
         let p = self.prev[x];
         let n = self.next[x];
-        self.next[p as usize] = n;
-        self.prev[n as usize] = p;
+        self.next[usize::from(p)] = n;
+        self.prev[usize::from(n)] = p;
         self.ids[x] = 0;
         self.keys[x] = 0;
         self.releases[x] = 0;

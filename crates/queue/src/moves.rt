@@ -12,6 +12,7 @@ impl Queue {
         requires { CanMoveAll self.old placed.now amounts.now n }
         ensures { HasEntries self.new (moved_all placed.now.ids amounts.now n (entries self.old)) }
     {
+        // By index: `CanMoveAll` and `moved_all` count the moves, and three arrays are read at once.
         for k in 0..n {
             self.move_at_sound(placed.places[k], amounts[k]);
         }

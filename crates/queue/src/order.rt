@@ -19,6 +19,7 @@ impl Queue {
             return Some(on);
         }
         let mut bucket = bucket_after(bucket_of_key(key));
+        // The bucket is stepped: a remainder of first and turn would cost a multiplication at every turn.
         for _turn in 1..BUCKET_COUNT {
             let first = self.next_of(PLACES + bucket);
             if first < PLACES {
@@ -41,6 +42,7 @@ impl Queue {
         let mut places = [0usize; 64];
         let mut key = self.places().least_key();
         let mut n = head_of(key);
+        // By index: two arrays are filled.
         for k in 0..count {
             n = self.following_sound(key, n).unwrap();
             ids[k] = self.ids[n];

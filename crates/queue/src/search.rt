@@ -5,7 +5,7 @@ ghost use Rattle.basics.specs.Limits.{buckets, places};
 ghost use Rattle.places.specs.Order.{Before};
 ghost use Rattle.places.specs.Lent.{as_entry};
 ghost use Rattle.queue.specs.Layout.{entry_at, bucket_after, Sound};
-ghost use Rattle.queue.specs.Calls.{least_of, next_of};
+ghost use Rattle.queue.specs.Calls.{next_of};
 ghost use Rattle.queue.specs.Linking.{SearchFrom, IsFirstAfter, IsNoneAfter, found_of};
 
 use crate::Queue;
@@ -33,7 +33,8 @@ impl Queue {
         point < self.entry_at(x)
     }
 
-    // Buckets from that of `from` on, each along its list; left at the first entry after the point.
+    // Buckets from that of `from` on, each along its list; left at the first entry after the point. The bucket is stepped: a remainder of first and
+    // turn would cost a multiplication at every turn.
     fn search_sound(&self, from: u32, point: Entry) -> Option<usize>
         requires { Sound self.now × SearchFrom self.now from (as_entry point) }
         ensures { MatchOption result (IsNoneAfter self.now (as_entry point)) (IsFirstAfter self.now (as_entry point)) }
@@ -72,18 +73,5 @@ impl Queue {
             Some(x) => Ok(self.entry_at(x)),
             None => Err(Refusal::NoEntry),
         }
-    }
-
-    // Ids are 1 or more, so every entry comes after zeros.
-    pub fn least_sound(&self) -> Result<Entry, Refusal>
-        requires { Sound self.now }
-        ensures { found_of result ≡ least_of self.now }
-    {
-        let zeros = Entry {
-            key: 0,
-            release: 0,
-            id: 0,
-        };
-        self.next_sound(zeros)
     }
 }

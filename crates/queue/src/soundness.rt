@@ -90,23 +90,13 @@ impl Queue {
     fn places_are_linked(&self) -> bool
         ensures { Decides result (Between 0 places (PlaceRight (entry_at self.now) (next_at self.now) (prev_at self.now))) }
     {
-        for x in 0..PLACES {
-            if !self.place_is_right(x) {
-                return false;
-            }
-        }
-        true
+        (0..PLACES).all(|x| self.place_is_right(x))
     }
 
     fn heads_are_linked(&self) -> bool
         ensures { Decides result (Between places 544 (HeadRight (id_at self.now) (key_at self.now) (next_at self.now) (prev_at self.now))) }
     {
-        for x in PLACES..544 {
-            if !self.head_is_right(x) {
-                return false;
-            }
-        }
-        true
+        (PLACES..544).all(|x| self.head_is_right(x))
     }
 
     // Places and heads are tested apart: what a head needs no test for is left out of the longer loop.

@@ -30,7 +30,7 @@ fn step(host: &mut Host, seen: &mut Seen, d: Draws) -> Result<()> {
 
 fn run(rt: &HostRuntime) -> Result<()> {
     let mut buffer = [0; 4096];
-    let [_, seed, wanted, ..] = line_of(text::input(&mut buffer)).numbers;
+    let [seed, wanted, ..] = line_of(text::input(&mut buffer)).numbers;
     let mut host = Host::new(rt);
     let mut seen = Seen::default();
     let mut draw = seed;

@@ -7,6 +7,18 @@ use arrayvec::ArrayVec;
 
 pub type Packet = ArrayVec<u8, 136>;
 
+// The edits of one packet: its start is so much more; a number becomes an id, is put in once more behind itself, or is taken out; an id is put in before
+// the numbers, or a message's number behind them.
+#[derive(Clone, Copy)]
+pub enum Edit {
+    MoveStart(i32),
+    Replace,
+    Repeat,
+    PutInFront,
+    TakeOut,
+    PutMessage,
+}
+
 const NUMBERS_FROM: usize = 6;
 
 // A number as it is stored.
@@ -61,18 +73,17 @@ fn take_out(packet: &mut Packet, place: usize) {
     }
 }
 
-// The edits of one packet, by their row. One that asks for a number where there is none is none.
-pub fn edit(packet: &mut Packet, row: u32, mood: Mood, d: Draws) {
+// An edit that asks for a number where there is none is none.
+pub fn make(packet: &mut Packet, edit: Edit, mood: Mood, d: Draws) {
     let id = stored(mood.id(d.e));
     let end = packet.len();
-    match (row, chosen(packet, d.d)) {
-        (1..=2, _) => move_start(packet, 1),
-        (3..=4, _) => move_start(packet, -1),
-        (5..=6, Some((place, _))) => replace(packet, place, id),
-        (7, Some((place, number))) => put_in(packet, place, number),
-        (8..=9, _) => put_in(packet, NUMBERS_FROM, id),
-        (10, Some((place, _))) => take_out(packet, place),
-        (11, _) => put_in(packet, end, stored(next::number(d.e))),
+    match (edit, chosen(packet, d.d)) {
+        (Edit::MoveStart(by), _) => move_start(packet, by),
+        (Edit::Replace, Some((place, _))) => replace(packet, place, id),
+        (Edit::Repeat, Some((place, number))) => put_in(packet, place, number),
+        (Edit::PutInFront, _) => put_in(packet, NUMBERS_FROM, id),
+        (Edit::TakeOut, Some((place, _))) => take_out(packet, place),
+        (Edit::PutMessage, _) => put_in(packet, end, stored(next::number(d.e))),
         _ => {}
     }
 }

@@ -3,7 +3,7 @@ use super::draws::Draws;
 use super::mood::Mood;
 use calls::{Answered, Call};
 
-// B and F of the last opening, zeros if it was refused; L, that opening's T or the start of the last round held since; the mood, which is of
+// B and F of the last opening, zeros if it was refused, from which lengths and periods are made as from any others; L, that opening's T or the start of the last round held since; the mood, which is of
 // the last opening, refused or not; and whether the call before was a round that was held.
 #[derive(Clone, Copy, Default)]
 pub struct Seen {
@@ -17,8 +17,8 @@ pub struct Seen {
 impl Seen {
     // What a call answered that is no check.
     pub fn note(&mut self, call: Call, answered: Answered, d: Draws) {
-        self.held = answered.held.is_some();
-        if let Some(start) = answered.held {
+        self.held = answered.start.is_some();
+        if let Some(start) = answered.start {
             self.last = start;
         }
         if let Call::Open(slots, frame, _, last, _) = call {

@@ -59,7 +59,7 @@ pub fn rides(due: u32, deadline: u32, start: u32) -> bool
 }
 
 // Whether none of the first due times is by the end of a round. Each is looked at: a loop that cannot be left compares many at once.
-// The due times come as they are kept: an array of 64 with a count beside it, since the libraries use no heap.
+// No heap: the due times come as they are kept, in an array of 64 with a count beside it, and `NoneBy`, which the checker's proofs cite, counts.
 pub fn none_by_in_range(dues: &[u32; 64], count: usize, end: u32) -> bool
     requires { count ≤ places }
     ensures { Decides result (NoneBy count dues.now end) }

@@ -13,6 +13,7 @@ mod opening;
 mod soundness;
 
 // What opening sets, and nothing changes later: B, F and G, and 1 with messages on, 0 with them off.
+// The C interface: the header's struct planner begins with the same numbers in the same order.
 #[repr(C)]
 #[derive(Clone, Copy)]
 pub struct Setting {
@@ -32,6 +33,7 @@ impl Setting {
 }
 
 // The setting and L, the messages that wait, the streams in ascending id, and the queue that files them under their due times.
+// The C interface: the header's struct has the same fields in the same order, the setting's among them.
 #[repr(C)]
 #[derive(Clone, Copy)]
 pub struct Planner {
@@ -43,7 +45,7 @@ pub struct Planner {
 }
 
 // What a change answers, and the planner after it.
-// The answer is a number beside it, since a refused call hands its planner back too (Annex 7.3, 7.6; `IsChange`, theorem `same_outcomes`).
+// The answer is a number beside it, since a refused call hands its planner back too (Annex 7.3, 7.8; `IsOpened`, `IsChange`, theorem `same_outcomes`).
 #[derive(Clone, Copy)]
 pub struct Changed {
     pub answer: u32,

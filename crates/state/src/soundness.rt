@@ -14,7 +14,7 @@ impl Planner {
     fn has_numbers(&self) -> bool
         ensures { Decides result (HasNumbers self.now) }
     {
-        // As a slice, whose length a proof knows.
+        // As a slice, whose length a proof knows: of an array in a struct behind a reference it has no such fact.
         let _numbers: &[u16] = &self.waiting.numbers;
         open_refusal(&self.setting, self.last).is_ok()
             && messages::in_range(self.waiting, MOST_WAITING * self.setting.messages)
@@ -26,7 +26,7 @@ fn is_filed_in_range(table: &Table, queue: &Queue) -> bool
     requires { CanCompare table.now }
     ensures { Decides result (IsFiled table.now queue.now) }
 {
-    // As a slice, whose length a proof knows.
+    // As a slice, whose length a proof knows: of an array in a struct behind a reference it has no such fact.
     let _places: &[Record] = &table.streams;
     let ids = table.ids_in_range();
     let dues = table.column_in_range(0, |stream| stream.release + stream.deadline);

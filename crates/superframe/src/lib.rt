@@ -7,7 +7,7 @@ ghost use Rattle.basics.specs.Decides.{Decides};
 ghost use Rattle.basics.specs.Limits.{longest_frame, longest_period};
 ghost use Rattle.basics.specs.OneTo.{OneTo};
 ghost use Rattle.superframe.specs.Superframe.{superframe_of, packed};
-ghost use Rattle.superframe.specs.Multiples.{IsGcd, IsLcmOfTwo, IsLcmOrAbove, answered_by};
+ghost use Rattle.superframe.specs.Multiples.{IsGcd, IsLcmOfTwo, IsLcmWithinLimit, answered_by};
 
 use basics::{LONGEST_FRAME, LONGEST_PERIOD, Refusal, is_one_to};
 
@@ -41,19 +41,20 @@ fn all_in_range(periods: &[u8]) -> bool
     periods.iter().all(|period| is_period(*period))
 }
 
-// Stops multiplying once the limit is passed, so nothing overflows however long the list is.
-fn lcm_in_range(periods: &[u8]) -> u32
+// The least common multiple of the periods, or none where it is above the limit. It stops multiplying there, so nothing overflows however long the
+// list is.
+fn lcm_in_range(periods: &[u8]) -> Option<u32>
     requires { All (OneTo longest_period) periods.now }
-    ensures { IsLcmOrAbove periods.now result }
+    ensures { IsLcmWithinLimit periods.now result }
 {
     let mut m: u32 = 1;
     for period in periods {
-        if LONGEST_FRAME < m {
-            return m;
-        }
         m = lcm_within_limit(m, u32::from(*period));
+        if LONGEST_FRAME < m {
+            return None;
+        }
     }
-    m
+    Some(m)
 }
 
 // The superframe of the periods, or why there is none.
@@ -63,11 +64,7 @@ fn frame_of(periods: &[u8]) -> Result<u32, Refusal>
     if !all_in_range(periods) {
         return Err(Refusal::BadPeriodOfList);
     }
-    let value = lcm_in_range(periods);
-    if LONGEST_FRAME < value {
-        return Err(Refusal::LongFrame);
-    }
-    Ok(value)
+    lcm_in_range(periods).ok_or(Refusal::LongFrame)
 }
 
 // The answer and the value as the one number that C gets.

@@ -1,4 +1,4 @@
-// The superframe helper for C: the export of the library's function, under its clause.
+// The superframe helper for C: the export of the library's function, under its clause. A crate of its own, since a crate is built as a library or for C.
 #![tactic(auto)]
 
 ghost use Rattle.std.specs.Prelude.{◌≡◌};

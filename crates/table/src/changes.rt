@@ -40,7 +40,7 @@ impl Table {
         requires { CanSearch self.now }
         ensures { IsPlaceFor self.now id result }
     {
-        basics::place_among_rising(&self.ids_in_range(), id)
+        self.records().partition_point(|stream| stream.id < id)
     }
 
     // Whether a stream has the id.

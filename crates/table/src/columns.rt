@@ -8,7 +8,8 @@ ghost use Rattle.table.specs.Ids.{IsIds};
 use super::{Record, Table};
 
 impl Table {
-    // One value of each stream, at its place, and `none` at the free ones.
+    // One value of each stream, at its place, and `none` at the free ones. By index: with `zip` the loop goes by the iterator, and six goals stayed
+    // open that close by index.
     pub fn column_in_range<T: Copy, F: Fn(Record) -> T>(&self, none: T, value: F) -> [T; 64]
         requires count { self.now.count ≤ places }
         requires defined { EachRecord (F.pre value) self.now }

@@ -25,6 +25,7 @@ fn time_after(time: u16, t: u16, period: u16) -> u16
 }
 
 // One length further, to t: how many of the due times fall at t; those move on by their periods.
+// By index: no_division is proved of this code, and `zip` is a call of the library's.
 pub fn advance(periods: &[u16], times: &mut [u16], t: u16) -> u16
     requires { CanAdvance periods.now times.old t }
     ensures { IsAdvance periods.now times.old t times.new result }
@@ -46,6 +47,7 @@ struct Sums {
 
 // Annex 12.19: the sums at t, from those at the length before: each deadline and each release that comes at t is added. The table is there
 // for the contract to name; of it only the count is read.
+// The sums are widened by casts, for the reason at `hit`. It is called at one place: a struct of what it is passed would serve that call alone.
 fn sums_at(
     table: &Table,
     periods: &[u16; 64],

@@ -17,6 +17,7 @@ mod range;
 mod start;
 
 // Annex 3.2: a stream's record: its id, P and D, and the release of its first unserved packet.
+// The C interface: the header's struct has the same fields in the same order.
 #[repr(C)]
 #[derive(Clone, Copy)]
 pub struct Record {
@@ -26,7 +27,8 @@ pub struct Record {
     pub release: u32,
 }
 
-// The records are those in the first `count` places.
+// The records are those in the first `count` places. That the count is at most 64 is no invariant: `in_range` tests it, of any value whatever (Annex 7.11).
+// The C interface: the header's struct has the same fields in the same order.
 #[repr(C)]
 #[derive(Clone, Copy)]
 pub struct Table {

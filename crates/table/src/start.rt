@@ -36,6 +36,7 @@ fn rounds_from(needed: u32, packets: u32, slots: u32) -> u32
 }
 
 // What next_start_in_range answers, where `first` is the first due time, and `times` are the due times less now.
+// The sum is widened by a cast, for the reason at `hit`. It is called at one place: a struct of what it is passed would serve that call alone.
 fn start_from(
     table: &Table,
     periods: &[u16; 64],

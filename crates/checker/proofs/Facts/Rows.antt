@@ -1,8 +1,7 @@
 -- The record in a row of the columns: how it is found, whether its packet may ride, and what sending it leaves.
-use Rattle.std.specs.Prelude.{◌≡◌, true, false, ℕ, ◌+◌, ◌≤◌, ◌<◌, length, get_or, set}
-use Rattle.std.proofs.Common.{sym, subst, ◌∙◌, true≢false, lt_irrefl, arith}
+use Rattle.std.specs.Prelude.{◌≡◌, ℕ, ◌+◌, ◌≤◌, ◌<◌, length, get_or, set}
+use Rattle.std.proofs.Common.{sym, subst, ◌∙◌, lt_irrefl, arith}
 use Rattle.std.proofs.Math.Path.{subst⁻¹}
-use Rattle.std.proofs.lemmas.Bool.{false≢true}
 use mathlib.Core.List.{List}
 use Rattle.std.proofs.Math.Decide.{dec_lt}
 use Rattle.std.proofs.Math.Bridge.{le_prop}
@@ -17,7 +16,8 @@ use Rattle.table.specs.Facts.Records.{one_record}
 use Rattle.table.specs.declared.Record.{Record}
 use Rattle.round_tests.specs.Tests.{RidesBy, NoneBy}
 use Rattle.checker.specs.Columns.{as_table, Shows, records_in}
-use Rattle.checker.specs.Needs.{RidesNow, IsSentOne, NoneDue}
+use Rattle.table.specs.Needs.{serve}
+use Rattle.checker.specs.Needs.{RidesNow, MaySendOne, NoneDue}
 use Rattle.checker.proofs.Facts.Columns.{all_in, row_mem, can_search, shows_one, sent_shown}
 use Rattle.checker.specs.declared.sending.Streams.TheInside.{Inside}
 
@@ -43,14 +43,10 @@ module _ {s : Inside} {rs : List Record} (shows : Shows s rs) where
 
   module _ {id row : ℕ} (low : row < length rs) (here : (row_at rs row).id ≡ id) where
     -- the test on the columns is that of the record ..
-    pub row_refused : {start : ℕ} {after : List Record} → (RidesBy (get_or s.dues row 0) (get_or s.deadlines row 0) start → ⊥)
-        → IsSentOne rs after id start false
-    row_refused not = record {
-      sent = λ e. absurd (false≢true e);
-      refused = λ _ may.
-          let rides = may.ride (row_at rs row) (row_mem rs row low) here in
-          not (omega (arith, rides, shows.times row low, shows.deadlines row low), omega (arith, rides, shows.times row low));
-    }
+    pub row_refused : {start : ℕ} → (RidesBy (get_or s.dues row 0) (get_or s.deadlines row 0) start → ⊥) → MaySendOne rs id start → ⊥
+    row_refused not may =
+        let rides = may.ride (row_at rs row) (row_mem rs row low) here in
+        not (omega (arith, rides, shows.times row low, shows.deadlines row low), omega (arith, rides, shows.times row low))
 
     module _ {start : ℕ} (rides : RidesBy (get_or s.dues row 0) (get_or s.deadlines row 0) start) where
       row_rides : RidesNow start (row_at rs row)
@@ -71,18 +67,16 @@ module _ {s : Inside} {rs : List Record} (shows : Shows s rs) where
           )
 
       -- .. and with it the columns show the records with the id sent
-      pub row_sent : IsSentOne rs (records_in (record s { dues = set s.dues row (get_or s.dues row 0 + get_or s.periods row 0) })) id start true
-      row_sent = record {
-        sent = λ _. (
-          record {
-            held = subst (HasId id) (all_in rs) (held_at_place (as_table rs) (omega arith) id row low here);
-            ride = λ r m same.
-                subst⁻¹ (RidesNow start) (one_record rs shows.regular.ascending r (row_at rs row) m (row_mem rs row low) (same ∙ sym here)) row_rides;
-          },
-          shows_one (sent_shown shows id row low here),
-        );
-        refused = λ e. absurd (true≢false e);
-      }
+      pub row_sent : MaySendOne rs id start
+          × (records_in (record s { dues = set s.dues row (get_or s.dues row 0 + get_or s.periods row 0) }) ≡ serve id rs)
+      row_sent = (
+        record {
+          held = subst (HasId id) (all_in rs) (held_at_place (as_table rs) (omega arith) id row low here);
+          ride = λ r m same.
+              subst⁻¹ (RidesNow start) (one_record rs shows.regular.ascending r (row_at rs row) m (row_mem rs row low) (same ∙ sym here)) row_rides;
+        },
+        shows_one (sent_shown shows id row low here),
+      )
 
   -- none of the due times is by a moment exactly if none of the records' packets is
   pub none_due : {end : ℕ} → NoneBy s.count s.dues end → NoneDue end rs

@@ -1,5 +1,5 @@
 -- Which rule a round breaks first, and when it breaks none.
-use Rattle.std.specs.Prelude.{◌≡◌, refl, Bool, ℕ, ◌+◌, ◌≤◌, ◌<◌, take}
+use Rattle.std.specs.Prelude.{◌≡◌, refl, ℕ, ◌+◌, ◌≤◌, ◌<◌, take}
 use Rattle.std.proofs.Common.{rules, sym, ◌∙◌, subst, arith}
 use Rattle.std.proofs.Math.Logic.{∥∥₁_elim}
 use mathlib.Core.List.{List, ◌++◌, map, exists_of_mem-map, mem-map_of_mem}
@@ -11,7 +11,7 @@ use Rattle.packet_bytes.specs.Layout.{Values, bytes_of}
 use Rattle.state.specs.Content.{Content}
 use Rattle.checker.specs.Plans.{sent_for, LeavesNone, MaySend, Passes, IsFirstBroken, BreaksRule}
 use Rattle.checker.specs.Plans.{of_packet, of_start, of_room, of_slots, of_rest}
-use Rattle.checker.specs.Needs.{CanCheck, NoneDue, NoneInFront, IsInFront, values, IsSentAll, BreaksFirst, KeepsThree, IsFront}
+use Rattle.checker.specs.Needs.{CanCheck, NoneDue, NoneInFront, IsInFront, values, BreaksFirst, KeepsThree, IsFront}
 use Rattle.checker.specs.declared.rounds.Front.{Front}
 use Rattle.checker.proofs.Facts.Numbers.{ids_listed}
 use Rattle.checker.specs.declared.round_rules.Rule.TheVariants.{Slots, Rest}
@@ -41,11 +41,17 @@ none_breaks {h} {rest} none = record {
 pub few_ids : {h : Content} {v : Values} {n : ℕ} → CanCheck h.setting → KeepsThree h v n → n ≤ 64
 few_ids can three = omega (arith, can.slots, three.room, three.counted)
 
--- what has been sent are the stream ids, which stand in front of all others
-pub sent_ids : {h : Content} (f : Front) {n start : ℕ} {before after : List Record} {r : Bool} → KeepsThree h (values f) n
-    → IsSentAll before after (take n f.numbers) start r → IsSentAll before after (stream_ids (values f).ids) start r
-sent_ids {h} f {n} {start} {before} {after} {r} three sent =
-    subst (λ (ids : List ℕ). IsSentAll before after ids start r) (ids_listed f.numbers f.count n three.packet.0.ids three.counted) sent
+-- what has been sent, or may not be, are the stream ids, which stand in front of all others
+module _ {h : Content} (f : Front) {n : ℕ} (three : KeepsThree h (values f) n) where
+  listed_are : take n f.numbers ≡ stream_ids (values f).ids
+  listed_are = ids_listed f.numbers f.count n three.packet.0.ids three.counted
+
+  pub refused_ids : {start : ℕ} {before : List Record} → (MaySend before (take n f.numbers) start → ⊥) → MaySend before (stream_ids (values f).ids) start → ⊥
+  refused_ids {start} {before} not = subst (λ (ids : List ℕ). MaySend before ids start → ⊥) listed_are not
+
+  pub sent_ids : {start : ℕ} {before after : List Record} → MaySend before (take n f.numbers) start × (after ≡ map (sent_for (take n f.numbers)) before)
+      → MaySend before (stream_ids (values f).ids) start × (after ≡ map (sent_for (stream_ids (values f).ids)) before)
+  sent_ids {start} {before} {after} sent = subst (λ (ids : List ℕ). MaySend before ids start × (after ≡ map (sent_for ids) before)) listed_are sent
 
 module _ {h : Content} {v : Values} {n : ℕ} (three : KeepsThree h v n) where
   abbrev ids : List ℕ

@@ -2,5 +2,5 @@
 use Rattle.checker.specs.Verdicts.{refused}
 use Rattle.checker.proofs.find.Goals as goal
 
-pub returns-in_default : goal.returns-in_default
-returns-in_default c = rw c.from.ensures (refused c.in_default.ensures)
+pub returns-in-None : goal.returns-in-None
+returns-in-None c = rw c.from.ensures (refused c.in-None.ensures)

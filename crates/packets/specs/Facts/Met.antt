@@ -1,14 +1,15 @@
 -- Ids met one after the other: good ones so far, and a set that has the remainders of all of them.
-use Rattle.std.specs.Prelude.{◌≡◌, Bool, true, ℕ, ◌+◌, ◌%◌, ◌<◌, length, get_or, take}
+use Rattle.std.specs.Prelude.{◌≡◌, refl, Bool, true, false, ◌||◌, eqb, ℕ, ◌+◌, ◌%◌, ◌<◌, length, get_or, take}
+use Rattle.std.specs.List.{list_any}
 use Rattle.std.proofs.Common.{sym, subst, ◌∙◌, add-one, take-suc}
 use Rattle.std.proofs.Math.Path.{subst⁻¹}
 use Rattle.std.proofs.Math.Logic.Or
 use mathlib.Core.HLevel.{⊥_prop}
 use mathlib.Core.List.{List, [], ◌∷◌, ◌++◌, Mem, Mem-prop}
-use mathlib.Core.List.{Nodup-nil, Nodup-append, Nodup-cons, mem-append, mem-append_left, mem-append_right, eq-or-mem_of_mem-cons, mem-cons_self, not-mem-nil}
+use mathlib.Core.List.{Nodup-nil, Nodup-append, Nodup-cons, mem-append, eq-or-mem_of_mem-cons, mem-cons_of_mem, mem-cons_self, not-mem-nil}
 use Rattle.std.proofs.Math.Decide.{ℕ_discrete}
 use Rattle.basics.specs.Decides.{Decides}
-use Rattle.basics.specs.Facts.Decides.{decides_yes, same_as}
+use Rattle.basics.specs.Facts.Decides.{decides_yes, decides_no, same_as, equal_to}
 use Rattle.basics.specs.Limits.{largest_id}
 use Rattle.basics.specs.OneTo.{OneTo}
 use Rattle.bits.specs.Bits.{InWords, IsWordsWith}
@@ -65,17 +66,13 @@ one_more_met ids i {words} {after} inside met range new put =
       all = all_with (λ (y : ℕ). InWords after (y % 1024)) (take i ids) (get_or ids i 0) (λ y m. put.kept (y % 1024) (met.all y m)) put.here;
     })
 
--- whether an id stands before the next place: it stands at this one
-pub found_at : (ids : List ℕ) (j x : ℕ) {next : Bool} → j < length ids → get_or ids j 0 ≡ x → next ≡ true → Decides next (Mem x (take (j + 1) ids))
-found_at ids j x inside here yes_now =
-    let last : Mem x (get_or ids j 0 ∷ []) = subst (λ (y : ℕ). Mem y (get_or ids j 0 ∷ [])) here mem-cons_self in
-    subst⁻¹ (λ (b : Bool). Decides b (Mem x (take (j + 1) ids))) yes_now
-    (decides_yes (subst⁻¹ (Mem x) (next_taken ids j inside) (mem-append_right (take j ids) last)))
-
--- or it does not, and stands before the next place if it stands before this one
-pub passed_over : (ids : List ℕ) (j x : ℕ) {found next : Bool} → j < length ids → Decides found (Mem x (take j ids)) → (get_or ids j 0 ≡ x → ⊥)
-    → next ≡ found → Decides next (Mem x (take (j + 1) ids))
-passed_over ids j x inside decided other as_before =
-    subst⁻¹ (λ (b : Bool). Decides b (Mem x (take (j + 1) ids))) as_before
-    (same_as (λ m. subst⁻¹ (Mem x) (next_taken ids j inside) (mem-append_left (get_or ids j 0 ∷ []) m))
-    (λ m. earlier (take j ids) (get_or ids j 0) x (λ same. other (sym same)) (subst (Mem x) (next_taken ids j inside) m)) decided)
+-- one test of each number decides whether an id is among them
+pub among : (ids : List ℕ) (x : ℕ) → Decides (list_any (λ (y : ℕ). eqb y x) ids) (Mem x ids)
+among [] x = decides_no not-mem-nil
+among (y ∷ ids) x = go (eqb y x) (list_any (λ (z : ℕ). eqb z x) ids) (equal_to y x) (among ids x)
+  where
+    go : (here later : Bool) → Decides here (y ≡ x) → Decides later (Mem x ids) → Decides (here || later) (Mem x (y ∷ ids))
+    go true later is rest = decides_yes (subst (λ (z : ℕ). Mem z (y ∷ ids)) (is.if_true refl) mem-cons_self)
+    go false later is rest =
+        same_as (mem-cons_of_mem y)
+        (λ m. Or.elim Mem-prop (eq-or-mem_of_mem-cons m) (λ same. absurd (is.if_false refl (sym same))) (λ behind. behind)) rest

@@ -1,12 +1,13 @@
 -- Stream ids in front and messages behind them: when numbers are good, told place by place.
-use Rattle.std.specs.Prelude.{◌≡◌, ◌↔◌, IsTrue, EachIndex, slice_index, Bool, ℕ, suc, ◌+◌, ◌-◌, ◌≤◌, ◌<◌, length, get_or, take, drop}
+use Rattle.std.specs.Prelude.{◌≡◌, Bool, ℕ, suc, ◌+◌, ◌-◌, ◌≤◌, ◌<◌, length, get_or, take, drop}
 use Rattle.std.proofs.Common.{sym, ap, subst, ◌∙◌, arith, take-append-drop, length-drop, take_all}
 use Rattle.std.proofs.Math.Path.{subst⁻¹}
 use mathlib.Core.List.{List, [], ◌∷◌, ◌++◌, append-nil, Mem, Nodup, Nodup-append}
 use mathlib.Core.List.{Mem-prop, eq-or-mem_of_mem-cons, mem-append_right, mem-cons_self, not-mem-nil}
 use Rattle.std.proofs.Math.Logic.Or
 use Rattle.std.proofs.Math.Decide.{dec_le, ℕ_discrete}
-use Rattle.std.proofs.lemmas.Bool.{false≢true}
+use Rattle.std.specs.List.{All}
+use Rattle.std.proofs.lemmas.List.Elements.{All-get_or, All-from_get_or}
 use Rattle.std.proofs.Math.ListN.{get_or-append}
 use Rattle.std.proofs.Math.Seq.{split_at, drop-append-add}
 use Rattle.basics.specs.Decides.{Decides}
@@ -44,13 +45,11 @@ each_place P (x ∷ ns) each n m = go (ℕ_discrete n x) (each_place P ns (λ k 
     go (yes same) later = subst⁻¹ P same (each 0 (omega arith))
     go (no other) later = later (Or.elim Mem-prop (eq-or-mem_of_mem-cons m) (λ same. absurd (other same)) (λ behind. behind))
 
--- a test of the number at each place decides whether all are messages
-pub all_tested : (ns : List ℕ) {all : Bool} → IsTrue all ↔ EachIndex ns (λ k. IsMessage (slice_index ns k)) → Decides all (AreMessages ns)
-all_tested ns tested =
-    record {
-      if_true = λ e. each_place (λ (n : ℕ). IsMessage n) ns (tested.0 e);
-      if_false = λ e each. false≢true (sym e ∙ tested.1 (λ k low. each _ (get_or_mem ns k 0 low)));
-    }
+-- what decides that the number at each place is a message decides whether all are
+pub all_tested : (ns : List ℕ) {all : Bool} → Decides all (All IsMessage ns) → Decides all (AreMessages ns)
+all_tested ns =
+    same_as (λ each. each_place (λ (n : ℕ). IsMessage n) ns (λ k low. All-get_or IsMessage ns k 0 low each))
+    (λ each. All-from_get_or IsMessage ns 0 (λ k low. each _ (get_or_mem ns k 0 low)))
 
 module _ (ns : List ℕ) (i : ℕ) (inside : i < length ns) where
   -- no id among good numbers stands at an earlier place too

@@ -1,7 +1,12 @@
 -- Why the tests of the places together decide whether these are sound.
-use Rattle.std.specs.Prelude.{◌≡◌, ◌⊎◌, ℕ, ◌+◌, ◌≤◌, ◌<◌, min}
-use Rattle.std.proofs.Common.{inl, inr, lt_irrefl, arith}
+use Rattle.std.specs.Prelude.{◌≡◌, ◌⊎◌, Bool, true, false, ℕ, ◌+◌, ◌≤◌, ◌<◌, get_or, min}
+use Rattle.std.specs.Bool.{MatchBool}
+use Rattle.std.specs.List.{AllWithin, HoldsAt, range_with_len}
+use Rattle.std.proofs.Common.{inl, inr, subst, sym, lt_irrefl, true≢false, arith}
 use Rattle.std.proofs.Math.Decide.{dec_lt}
+use Rattle.std.proofs.lemmas.List.FromFn.{get_or-range_with_len}
+use Rattle.basics.specs.Below.{Below}
+use Rattle.basics.specs.Decides.{Decides}
 use Rattle.basics.specs.Limits.{largest_key}
 use Rattle.places.specs.Soundness.{IsLeast}
 
@@ -37,3 +42,15 @@ least_free {ids} {keys} {i} {m} before free =
         (m ≡ largest_key) ⊎ ((j : ℕ) × (j < i + 1) × (1 ≤ ids j) × (m ≡ keys j))
     reach (inl top) = inl top
     reach (inr w) = inr (w.0, omega (arith, w.1), w.2, w.3)
+
+-- the numbers below n stand in order
+number_at : (n i : ℕ) → i < n → get_or (range_with_len 0 n) i 0 ≡ i
+number_at n i below = omega (arith, get_or-range_with_len 0 n i 0 below)
+
+-- a test of each number below n, that passes it or refutes it, decides them all
+pub all_tested : (n : ℕ) (P : ℕ → Type 0) (b : Bool)
+    → MatchBool b (AllWithin P (range_with_len 0 n) 0 n) ((k : ℕ) × (k < n) × HoldsAt (λ i. P i → ⊥) (range_with_len 0 n) k) → Decides b (Below n P)
+all_tested n P true all =
+    record { if_true = λ _ i below. subst P (number_at n i below) (all i 0 (omega arith) below); if_false = λ e _. true≢false e }
+all_tested n P false w =
+    record { if_true = λ e. absurd (true≢false (sym e)); if_false = λ _ all. w.2 0 (subst P (sym (number_at n w.0 w.1)) (all w.0 w.1)) }

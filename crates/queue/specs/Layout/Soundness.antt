@@ -20,8 +20,8 @@ abbrev pub EntryNext : (rows : ℕ → Entry) (prev : ℕ → ℕ) → ℕ → �
 EntryNext rows prev x n = NextRight (λ i. (rows i).id) (λ i. (rows i).key) prev x n × (n < places → Before (rows x) (rows n))
 
 -- The links of a place that holds an entry, and those of a head, of which no order is asked.
-abbrev pub PlaceRight : (rows : ℕ → Entry) (next prev : ℕ → ℕ) → ℕ → Type 0
-PlaceRight rows next prev x = 1 ≤ (rows x).id → Linked rows next prev x
+pub record PlaceRight (rows : ℕ → Entry) (next prev : ℕ → ℕ) (x : ℕ) : Type 0 where
+  pub linked : 1 ≤ (rows x).id → Linked rows next prev x
 
 abbrev pub HeadRight : (ids keys next prev : ℕ → ℕ) → ℕ → Type 0
 HeadRight ids keys next prev x = NextRight ids keys prev x (next x) × PrevRight ids next x (prev x)

@@ -40,7 +40,7 @@ module _ {rows : ℕ → Entry} {next prev : ℕ → ℕ} {x n p : ℕ} (on : n 
 -- places and heads are all the nodes
 pub all_from : {rows : ℕ → Entry} {next prev : ℕ → ℕ} → Between 0 places (PlaceRight rows next prev)
     → Between places 544 (HeadRight (λ i. (rows i).id) (λ i. (rows i).key) next prev) → AllLinked rows next prev
-all_from held heads x (inl place) = held x (omega arith) place.0 place.1
+all_from held heads x (inl place) = (held x (omega arith) place.0).linked place.1
 all_from {rows} {next} {prev} held heads x (inr head) = let w = heads x head.0 head.1 in
     record {
       next_is_node = w.0.node;

@@ -4,7 +4,7 @@ use Rattle.basics.specs.Facts.Decides.{decides_yes, decides_no}
 use Rattle.bits.specs.Facts.Words.{zeros}
 use Rattle.packets.specs.Good.{IdsGood}
 use Rattle.packets.specs.Facts.Met.{none_met, one_more_met}
-use Rattle.packets.specs.Facts.Numbers.{good_is_new, rest_decides, ids_alone}
+use Rattle.packets.specs.Facts.Numbers.{all_tested, good_is_new, rest_decides, ids_alone}
 use Rattle.packets.proofs.numbers.numbers_are_good.Goals as goal
 
 pub loop-i-init : goal.loop-i-init
@@ -14,7 +14,7 @@ loop-i-init c = none_met
 pub returns-then-not-is_id : goal.returns-then-not-is_id
 returns-then-not-is_id c =
     let no_id = c.is_id.ensures.if_false c.if-not-is_id.true in
-    rest_decides _ _ c.loop-i-test.true c.loop-i.invariant.good no_id c.all_messages.ensures
+    rest_decides _ _ c.loop-i-test.true c.loop-i.invariant.good no_id (all_tested _ c.all_messages.ensures)
 
 pub returns-then-is_met : goal.returns-then-is_met
 returns-then-is_met c =

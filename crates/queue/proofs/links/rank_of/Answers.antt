@@ -8,4 +8,4 @@ pub returns-then-entry-lt1 : goal.returns-then-entry-lt1
 returns-then-entry-lt1 c = sym (rank_none _ _ (omega (arith, c.if-entry-lt1.true)))
 
 pub returns : goal.returns
-returns c = sym (rank_some _ _ c.if-entry-lt1.false)
+returns c = rw (c.from.ensures, c.from-2.ensures) (sym (rank_some _ _ c.if-entry-lt1.false))

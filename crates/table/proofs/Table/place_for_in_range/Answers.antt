@@ -1,10 +1,15 @@
--- `table::Table::place_for_in_range` meets its contract: the ids rise over all 64 places, so halving finds the place.
-use Rattle.std.proofs.Common.{arith}
-use Rattle.table.specs.Facts.Ids.{ids_rise, place_for}
+-- `table::Table::place_for_in_range` meets its contract: the ids rise from record to record, so halving finds the place.
+use Rattle.std.proofs.Common.{arith, rules}
+use Rattle.std.proofs.lemmas.List.Sorted.{IsPartitionPoint-from_clause}
+use Rattle.std.specs.Prelude.{ltb}
+use Rattle.table.specs.declared.Record.{Record}
+use Rattle.table.specs.Facts.Ids.{place_for}
 use Rattle.table.proofs.Table.place_for_in_range.Goals as goal
 
-pub place_among_rising-requires : goal.place_among_rising-requires
-place_among_rising-requires c = ids_rise _ c.requires (omega arith) c.ids_in_range.ensures
-
 pub returns : goal.returns
-returns c = place_for _ c.requires (omega arith) c.ids_in_range.ensures _ _ (omega (arith, c.ranges)) c.place_among_rising.ensures
+returns c =
+    let part = c.partition_point.ensures in
+    let id = c.args.id in
+    place_for _ c.requires (omega arith) id _ (rw c.records.ensures at part.bound)
+    (λ parted. rw c.records.ensures at (IsPartitionPoint-from_clause (λ (s : Record). ltb s.id id) c.records.result.now _ part.partitioned
+    (rw c.records.ensures parted) (λ a r q k. search rules)))

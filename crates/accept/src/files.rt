@@ -1,4 +1,6 @@
 // A file that an argument names, read whole. What the system delivers lies outside the contracts.
+ghost use Rattle.std.specs.Prelude.{◌≤◌, length, IfOk, IfSome};
+
 use crate::complaint::{SystemWords, complain};
 use std::env::FillError;
 use std::fmt::{Display, Formatter};
@@ -36,7 +38,9 @@ impl Display for Unread {
 }
 
 // All bytes up to the end of the file. Where no room is left, it has more than it may have.
-fn read_all<'s, F: Read>(file: &mut F, space: &'s mut [u8]) -> Result<&'s [u8], Unread> {
+fn read_all<'s, F: Read>(file: &mut F, space: &'s mut [u8]) -> Result<&'s [u8], Unread>
+    ensures { IfOk result (λ s. length s.now ≤ length space.old) }
+{
     let mut done: usize = 0;
     while done < space.len() {
         match file.read(&mut space[done..])? {
@@ -48,7 +52,9 @@ fn read_all<'s, F: Read>(file: &mut F, space: &'s mut [u8]) -> Result<&'s [u8], 
 }
 
 // What begins with - is an option and no file; a file of such a name is ./-name. std opens a file by a name in UTF-8 alone.
-fn read_file<'s, R: Files>(rt: &R, path: &[u8], space: &'s mut [u8]) -> Result<&'s [u8], Unread> {
+fn read_file<'s, R: Files>(rt: &R, path: &[u8], space: &'s mut [u8]) -> Result<&'s [u8], Unread>
+    ensures { IfOk result (λ s. length s.now ≤ length space.old) }
+{
     if path.starts_with(b"-") {
         return Err(Unread::NoSuchOption);
     }
@@ -60,7 +66,9 @@ fn read_file<'s, R: Files>(rt: &R, path: &[u8], space: &'s mut [u8]) -> Result<&
 }
 
 // The bytes of the file that argument i names, or none where standard error says why it is not read.
-pub fn read_argument(rt: HostRuntime, i: usize, space: &mut [u8]) -> Option<&[u8]> {
+pub fn read_argument(rt: HostRuntime, i: usize, space: &mut [u8]) -> Option<&[u8]>
+    ensures { IfSome result (λ s. length s.now ≤ length space.old) }
+{
     let mut path = [0u8; 4096];
     let n = match rt.arg(i, &mut path) {
         Ok(n) => n,

@@ -6,7 +6,7 @@ use checker::{Finding, Rule};
 use planner::Planner;
 use round_tests::packet_length;
 use std::fmt;
-use std::fmt::{Display, Formatter};
+use std::fmt::{Display, Formatter, InlineText};
 
 // A count and its unit, as in `1 round` and `2 rounds`.
 #[derive(Clone, Copy)]
@@ -119,10 +119,12 @@ fn verdict_of(found: Finding, plan: &[u8]) -> Verdict<'_>
     }
 }
 
-// Says on standard output what the checker finds of a plan.
+// Says on standard output what the checker finds of a plan, in one write, so that lines of programs that share a pipe do not mix. The longest line has 255
+// numbers of five digits.
 pub fn say(rt: HostRuntime, p: Planner, plan: &[u8]) {
     let verdict = verdict_of(checker::find(p, plan), plan);
-    if let Err(error) = println!(rt; "{verdict}") {
+    let line = InlineText::<2048>::of(format_args!("{verdict}\n"));
+    if let Err(error) = rt.write_all(line.as_str().as_bytes()) {
         complain(rt, b"standard output", SystemWords(error));
     }
 }

@@ -119,12 +119,7 @@ fn after_read(read: Option<usize>) -> Outcome
 }
 
 // The rest of a line is kept, and more is read behind it. After a failed read the rest is no line.
-fn refilled_in_range<R: Input + Eprint + Clock>(
-    rt: &R,
-    s: Session,
-    input: &mut [u8],
-    wrote: usize,
-) -> Turn
+fn refilled_in_range<R: Input + Clock>(rt: &R, s: Session, input: &mut [u8], wrote: usize) -> Turn
     requires { CanRefill s input.old }
     ensures { IsRefilled s wrote input.old input.new result }
 {
@@ -144,7 +139,7 @@ fn refilled_in_range<R: Input + Eprint + Clock>(
 }
 
 // Whole lines are answered and the answers handed over; then more is read, unless a whole line may be left.
-fn turn_in_range<R: Input + Print + Eprint + Clock>(
+fn turn_in_range<R: Input + Print + Clock>(
     rt: &R,
     s: Session,
     input: &mut [u8],
@@ -178,7 +173,7 @@ fn turn_in_range<R: Input + Print + Eprint + Clock>(
 }
 
 // What is left at the end of the input is answered, and the answer handed over.
-fn finish_in_range<R: Print + Eprint + Clock>(rt: &R, s: Session, input: &[u8], out: &mut [u8])
+fn finish_in_range<R: Print + Clock>(rt: &R, s: Session, input: &[u8], out: &mut [u8])
     requires { CanAnswerLast s input.now out.old }
 {
     let last = answer_last_in_range(s, input, out);
@@ -186,7 +181,7 @@ fn finish_in_range<R: Print + Eprint + Clock>(rt: &R, s: Session, input: &[u8], 
 }
 
 // Turns, until the input has ended or a read or a write has failed.
-pub fn run<R: Input + Print + Eprint + Clock>(rt: &R) {
+pub fn run<R: Input + Print + Clock>(rt: &R) {
     let mut input = io::large_buffer();
     let mut out = io::large_buffer();
     let mut s = begun();
@@ -199,5 +194,5 @@ pub fn run<R: Input + Print + Eprint + Clock>(rt: &R) {
             Outcome::Failed => return,
         }
     }
-    system::say_used_up(rt, s.reached.number);
+    system::say_used_up(s.reached.number);
 }

@@ -1,6 +1,7 @@
 // The system's calls: reading, writing, and a line on standard error where they cannot go on. What they deliver and do lies outside the contracts.
 ghost use Rattle.std.specs.Prelude.{◌≤◌, length, IfOk, IfSome};
 
+use std::fmt::InlineText;
 use std::io::{Error, ErrorKind, Read, Result};
 use std::rt::Clock;
 use std::thread;
@@ -18,14 +19,16 @@ fn is_to_be_tried_again(rt: &impl Clock, error: &Error) -> bool {
     }
 }
 
-// A line on standard error: what cannot go on, and the number of the last line answered.
-fn say(rt: &impl Eprint, what: &str, number: u64) {
-    let _ = eprintln!(rt; "{what}; last line answered: {number}");
+// A line on standard error: what cannot go on, and the number of the last line answered. The crate `io` writes it, so that no caller has to lend a handle
+// for it; the longest has 79 bytes.
+fn say(what: &str, number: u64) {
+    let line = InlineText::<128>::of(format_args!("{what}; last line answered: {number}\n"));
+    io::write_all(2, line.as_str().as_bytes());
 }
 
 // Says that no run goes on for ever.
-pub fn say_used_up(rt: &impl Eprint, number: u64) {
-    say(rt, "the turns of one run are used up", number);
+pub fn say_used_up(number: u64) {
+    say("the turns of one run are used up", number);
 }
 
 // Reads at least one byte, and answers how many; 0 where the input has ended, an error where the read failed.
@@ -43,17 +46,13 @@ fn read_some<R: Input + Clock>(rt: &R, buffer: &mut [u8]) -> Result<usize>
 }
 
 // How many bytes were read, 0 where the input has ended, as `read` of std answers. A read that failed is said, and delivers none.
-pub fn read_input<R: Input + Eprint + Clock>(
-    rt: &R,
-    buffer: &mut [u8],
-    number: u64,
-) -> Option<usize>
+pub fn read_input<R: Input + Clock>(rt: &R, buffer: &mut [u8], number: u64) -> Option<usize>
     ensures { IfSome result (λ n. n ≤ length buffer.old) }
 {
     match read_some(rt, buffer) {
         Ok(count) => Some(count),
         Err(_) => {
-            say(rt, "standard input cannot be read on", number);
+            say("standard input cannot be read on", number);
             None
         }
     }
@@ -74,7 +73,9 @@ fn write_some<R: Print + Clock>(rt: &R, bytes: &[u8]) -> Result<usize>
 }
 
 // Writes the bytes, and answers those that are left where the output cannot be written on.
-fn write_most<'a, R: Print + Clock>(rt: &R, bytes: &'a [u8]) -> &'a [u8] {
+fn write_most<'a, R: Print + Clock>(rt: &R, bytes: &'a [u8]) -> &'a [u8]
+    ensures { length result.now ≤ length bytes.now }
+{
     let mut rest = bytes;
     while !rest.is_empty() {
         match write_some(rt, rest) {
@@ -92,12 +93,12 @@ fn line_ends(bytes: &[u8]) -> u64 {
 
 // Writes answers, the last of them to line `number`, and answers whether all were written: the caller needs no more, since an error is said here. A line
 // counts as answered once its answer is written with its end.
-pub fn write_answers<R: Print + Eprint + Clock>(rt: &R, answers: &[u8], number: u64) -> bool {
+pub fn write_answers<R: Print + Clock>(rt: &R, answers: &[u8], number: u64) -> bool {
     let left = write_most(rt, answers);
     if left.is_empty() {
         return true;
     }
     let answered = number.saturating_sub(line_ends(left));
-    say(rt, "standard output cannot be written on", answered);
+    say("standard output cannot be written on", answered);
     false
 }

@@ -13,7 +13,6 @@ use checker::{Finding, Verdict};
 use line::{Line, line_of};
 use planner::{Planner, Rounded};
 use std::fmt;
-use std::io::Result;
 use text::Hex;
 
 pub mod cases;
@@ -83,7 +82,7 @@ impl fmt::Display for Elements<'_> {
     }
 }
 
-// A planner that is kept, whose calls are printed.
+// A planner that is kept, whose calls are printed. A write that fails is passed over, since the planner has moved whether or not its answer is seen.
 #[derive(Clone, Copy)]
 pub struct Host<'a> {
     pub rt: &'a HostRuntime,
@@ -99,7 +98,7 @@ impl<'a> Host<'a> {
         }
     }
 
-    fn round(&mut self, length: u32) -> Result<Answered> {
+    fn round(&mut self, length: u32) -> Answered {
         let mut buffer = [0; MOST_ELEMENTS];
         let elements = &mut buffer[..MOST_ELEMENTS.min(length as usize)];
         let held = planner::round(self.planner, elements);
@@ -111,15 +110,15 @@ impl<'a> Host<'a> {
             ..
         } = held;
         let call = Call::Round(length);
-        println!(self.rt; "{call}: {answer} {start} {n}{}", Elements(elements))?;
-        Ok(Answered {
+        let _ = println!(self.rt; "{call}: {answer} {start} {n}{}", Elements(elements));
+        Answered {
             answer,
             start: (answer == 0).then_some(start),
-        })
+        }
     }
 
     // Makes a call, and prints it with its answer.
-    pub fn make(&mut self, call: Call) -> Result<Answered> {
+    pub fn make(&mut self, call: Call) -> Answered {
         let p = self.planner;
         let changed = match call {
             Call::Open(slots, frame, gap, last, messages) => {
@@ -132,26 +131,25 @@ impl<'a> Host<'a> {
         };
         self.planner = changed.planner;
         let answer = changed.answer;
-        println!(self.rt; "{call}: {answer}")?;
-        Ok(Answered {
+        let _ = println!(self.rt; "{call}: {answer}");
+        Answered {
             answer,
             start: None,
-        })
+        }
     }
 
     // Does what a line says that is no check: with a small letter it sets a number in the planner, and prints nothing.
-    pub fn run_line(&mut self, text: &[u8]) -> Result<()> {
+    pub fn run_line(&mut self, text: &[u8]) {
         let line = line_of(text);
         if matches!(line.letter, Some(b'a'..)) {
             memory::set(&mut self.planner, &line);
-            return Ok(());
+            return;
         }
-        self.make(Call::from(line))?;
-        Ok(())
+        self.make(Call::from(line));
     }
 
     // A check, which leaves the planner as it is. What is found has the answer of the verdict, or the line says that it differs.
-    pub fn check(&self, plan: &[u8]) -> Result<()> {
+    pub fn check(&self, plan: &[u8]) {
         let Verdict { answer, round } = checker::check(self.planner, plan);
         let found = checker::find(self.planner, plan);
         let differs = if found.answer == answer {
@@ -165,9 +163,9 @@ impl<'a> Host<'a> {
             at,
             ..
         } = found;
-        println!(self.rt;
+        let _ = println!(self.rt;
             "C,{}: {answer} {round} {passed} {rule} {at}{differs}",
             Hex(plan)
-        )
+        );
     }
 }

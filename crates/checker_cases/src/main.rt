@@ -2,7 +2,7 @@
 // broken alone and by one unit on each side. The expected output is written by hand; what it has to be says the Annex, chapter 14.
 #![tactic(auto)]
 
-// A write that fails ends the run, and changes no exit status.
+// A write that fails is passed over: the run goes on, and no exit status changes.
 fn main(rt: HostRuntime) {
-    let _ = calls::cases::run_standard_input(&rt);
+    calls::cases::run_standard_input(&rt);
 }

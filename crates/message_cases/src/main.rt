@@ -7,27 +7,27 @@
 #![tactic(auto)]
 
 use calls::{Host, line};
-use std::io::Result;
 
 // A line with its end, if it has one.
-fn run_line(host: &mut Host, line: &[u8]) -> Result<()> {
+fn run_line(host: &mut Host, line: &[u8]) {
     match line::begun(line) {
-        comment @ [b'#', ..] => host.rt.write_all(comment),
+        comment @ [b'#', ..] => {
+            let _ = host.rt.write_all(comment);
+        }
         [call @ .., b'\n'] => host.run_line(call),
-        _ => Ok(()),
+        _ => {}
     }
 }
 
-fn run(rt: &HostRuntime) -> Result<()> {
+fn run(rt: &HostRuntime) {
     let mut buffer = [0; 65536];
     let mut host = Host::new(rt);
     for line in text::input(&mut buffer).split_inclusive(|c| *c == b'\n') {
-        run_line(&mut host, line)?;
+        run_line(&mut host, line);
     }
-    Ok(())
 }
 
-// A write that fails ends the run, and changes no exit status.
+// A write that fails is passed over: the run goes on, and no exit status changes.
 fn main(rt: HostRuntime) {
-    let _ = run(&rt);
+    run(&rt);
 }

@@ -67,7 +67,7 @@ pub fn is_one_to(n: u32, most: u32) -> bool
 }
 
 // Whether three numbers come after three others: by the first, where these are equal by the second, and where those are equal too by the third.
-// No crate calls it, since the queue's order is derived; it stays as the form of that order in which two wrong ones are refused.
+// The queue alone calls it, in its search and in its test; it stands here so that two wrong orders are refused on a small crate.
 pub fn is_after(
     first: u32,
     second: u32,

@@ -158,6 +158,15 @@ impl Queue {
         Ok(())
     }
 
+    fn least(&self) -> Result<Entry, Refusal>
+        ensures { found_of result ≡ least_of self.now }
+    {
+        if !self.is_sound() {
+            return Err(Refusal::NotSound);
+        }
+        self.least_sound()
+    }
+
     fn next(&self, point: Entry) -> Result<Entry, Refusal>
         ensures { found_of result ≡ next_of self.now point.key point.release point.id }
     {
@@ -192,11 +201,11 @@ pub fn move_by(mut q: Queue, id: u32, amount: u32) -> Changed
     Changed { answer, queue: q }
 }
 
-// Annex 8.13: the first entry of all. Ids are 1 or more, so every entry comes after zeros.
+// Annex 8.13: the first entry of all.
 pub fn least(q: Queue) -> Found
     ensures { result ≡ least_of q }
 {
-    next(q, 0, 0, 0)
+    Found::from(q.least())
 }
 
 // Annex 8.14: the first entry after a key, a release and an id, filed or not.

@@ -5,12 +5,12 @@ ghost use Rattle.basics.specs.Limits.{buckets, places};
 ghost use Rattle.places.specs.Order.{Before};
 ghost use Rattle.places.specs.Lent.{as_entry};
 ghost use Rattle.queue.specs.Layout.{entry_at, bucket_after, Sound};
-ghost use Rattle.queue.specs.Calls.{next_of};
+ghost use Rattle.queue.specs.Calls.{least_of, next_of};
 ghost use Rattle.queue.specs.Linking.{SearchFrom, IsFirstAfter, IsNoneAfter, found_of};
 
 use crate::Queue;
 use crate::links::bucket_of_key;
-use basics::{BUCKET_COUNT, LAST_BUCKET, PLACES, Refusal};
+use basics::{BUCKET_COUNT, LAST_BUCKET, PLACES, Refusal, is_after};
 use places::Entry;
 
 // The bucket after a bucket, round the circle.
@@ -30,7 +30,15 @@ impl Queue {
         requires { x < places }
         ensures { Decides result (Before (as_entry point) (entry_at self.now x)) }
     {
-        point < self.entry_at(x)
+        let here = self.entry_at(x);
+        is_after(
+            here.key,
+            here.release,
+            here.id,
+            point.key,
+            point.release,
+            point.id,
+        )
     }
 
     // Buckets from that of `from` on, each along its list; left at the first entry after the point. The bucket is stepped: a remainder of first and
@@ -73,5 +81,17 @@ impl Queue {
             Some(x) => Ok(self.entry_at(x)),
             None => Err(Refusal::NoEntry),
         }
+    }
+
+    // The first entry of all. Ids are 1 or more, so every entry comes after zeros.
+    pub fn least_sound(&self) -> Result<Entry, Refusal>
+        requires { Sound self.now }
+        ensures { found_of result ≡ least_of self.now }
+    {
+        self.next_sound(Entry {
+            key: 0,
+            release: 0,
+            id: 0,
+        })
     }
 }

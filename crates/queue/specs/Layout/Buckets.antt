@@ -131,15 +131,20 @@ module _ (q : Queue) (sound : Sound q) (from : ℕ) (point : Entry) (start : Sea
   pub left_with_none : (bucket turn : ℕ) → AtBucket q from point bucket turn → buckets ≤ turn → IsNoneAfter q point
   left_with_none bucket turn at all i holds after = omega (arith, at.ahead i holds after, (start i holds after).1)
 
+-- whatever the point, every entry after it has its key among the 480 from the least key on
+pub from_least : (q : Queue) (least : ℕ) (point : Entry) → Sound q → IsLeast (id_at q) (key_at q) places least → SearchFrom q least point
+from_least q least point sound is i holds after = (is.at_most i holds.0 holds.1, go is.reached)
+  where
+    go : (least ≡ largest_key) ⊎ ((j : ℕ) × (j < places) × (1 ≤ id_at q j) × (least ≡ key_at q j)) → key_at q i ≤ least + key_span
+    go (inl none) = omega (arith, sound.keys_in_range i holds)
+    go (inr w) = omega (arith, sound.span i w.0 holds (w.1, w.2), w.3)
+
 -- every entry after a point has its key among the 480 from the greater of the point's key and the least key on
 pub from_greater : (q : Queue) (least : ℕ) (point : Entry) → Sound q → IsLeast (id_at q) (key_at q) places least → SearchFrom q (max point.key least) point
 from_greater q least point sound is i holds after =
-    (omega (arith, not_before after, is.at_most i holds.0 holds.1), omega (arith, near is.reached))
+    let inside = from_least q least point sound is i holds after in
+    (omega (arith, not_before after, inside.0), omega (arith, inside.1))
   where
     not_before : Before point (entry_at q i) → point.key ≤ key_at q i
     not_before (inl less) = omega arith
     not_before (inr w) = omega (arith, w.0)
-
-    near : (least ≡ largest_key) ⊎ ((j : ℕ) × (j < places) × (1 ≤ id_at q j) × (least ≡ key_at q j)) → key_at q i ≤ least + key_span
-    near (inl none) = omega (arith, sound.keys_in_range i holds)
-    near (inr w) = omega (arith, sound.span i w.0 holds (w.1, w.2), w.3)

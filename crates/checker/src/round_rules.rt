@@ -1,7 +1,7 @@
 // The rules of a round, and the numbers by which hosts know them.
-ghost use Rattle.std.specs.Prelude.{◌≡◌, IfOk};
+ghost use Rattle.std.specs.Prelude.{◌≡◌, MatchResult};
 ghost use Rattle.checker.specs.Plans.{number_of};
-ghost use Rattle.checker.specs.Rules.{rule_of};
+ghost use Rattle.checker.specs.Rules.{rule_of, NumbersNone};
 
 // Annex 14.3 to 14.7: what a round has to keep: its packet is good, its start fits, it has room for its stream ids, its slots may be sent, and nothing
 // due by its end is left.
@@ -26,7 +26,7 @@ impl From<Rule> for u32 {
 impl TryFrom<u32> for Rule {
     type Error = u32;
 
-    ghost try_from_gives = { λ number r. IfOk r (λ rule. number ≡ number_of (rule_of rule)) };
+    ghost try_from_gives = { λ number r. MatchResult r (λ rule. number ≡ number_of (rule_of rule)) (λ back. (back ≡ number) × NumbersNone number) };
 
     fn try_from(number: u32) -> Result<Rule, u32> {
         match number {

@@ -95,22 +95,28 @@ stepped_deadline x r = go (ℕ_discrete r.id x)
     go (yes _) = refl
     go (no _) = refl
 
--- so records stay regular where an id is sent
-module _ (x : ℕ) (rs : List Record) (regular : Regular rs) where
-  each_stepped : (P : Record → Type 0) → ((r : Record) → IsProp (P r)) → ((r : Record) → Mem r rs → P (stepped x r))
-      → (q : Record) → Mem q (serve x rs) → P q
-  unfolding serve
-  each_stepped P prop all q m =
-      ∥∥₁_elim (exists_of_mem-map {f = stepped x} {l = rs} m) (prop q) (λ found. subst P found.2 (all found.0 found.1))
+-- records changed one by one, with all but their releases kept, stay regular
+module _ (f : Record → Record) (ids : (r : Record) → (f r).id ≡ r.id) (periods : (r : Record) → (f r).period ≡ r.period)
+    (deadlines : (r : Record) → (f r).deadline ≡ r.deadline) where
+  each : (rs : List Record) (P : Record → Type 0) → ((r : Record) → IsProp (P r)) → ((r : Record) → Mem r rs → P (f r))
+      → (q : Record) → Mem q (map f rs) → P q
+  each rs P prop all q m = ∥∥₁_elim (exists_of_mem-map {f = f} {l = rs} m) (prop q) (λ found. subst P found.2 (all found.0 found.1))
 
-  pub served_regular : Regular (serve x rs)
-  unfolding serve
-  served_regular = record {
-    ascending = Pairwise.map (λ a b. le_prop) (stepped x) (λ a b less. omega (arith, stepped_id x a, stepped_id x b, less)) regular.ascending;
-    ids = each_stepped (λ r. r.id ≤ largest_id) (λ r. le_prop) (λ r m. omega (arith, stepped_id x r, regular.ids r m));
-    periods = each_stepped (λ r. r.period ≤ longest_period) (λ r. le_prop) (λ r m. omega (arith, stepped_period x r, regular.periods r m));
-    deadlines = each_stepped (λ r. r.deadline ≤ longest_period) (λ r. le_prop) (λ r m. omega (arith, stepped_deadline x r, regular.deadlines r m));
+  mapped_regular : (rs : List Record) → Regular rs → Regular (map f rs)
+  mapped_regular rs regular = record {
+    ascending = Pairwise.map (λ a b. le_prop) f (λ a b less. omega (arith, ids a, ids b, less)) regular.ascending;
+    ids = each rs (λ r. r.id ≤ largest_id) (λ r. le_prop) (λ r m. omega (arith, ids r, regular.ids r m));
+    periods = each rs (λ r. r.period ≤ longest_period) (λ r. le_prop) (λ r m. omega (arith, periods r, regular.periods r m));
+    deadlines = each rs (λ r. r.deadline ≤ longest_period) (λ r. le_prop) (λ r m. omega (arith, deadlines r, regular.deadlines r m));
   }
+
+pub served_regular : (x : ℕ) (rs : List Record) → Regular rs → Regular (serve x rs)
+unfolding serve
+served_regular x rs regular = mapped_regular (stepped x) (stepped_id x) (stepped_period x) (stepped_deadline x) rs regular
+
+-- records stay regular where any ids are sent
+pub sent_regular : (ids : List ℕ) (rs : List Record) → Regular rs → Regular (map (sent_for ids) rs)
+sent_regular ids rs regular = mapped_regular (sent_for ids) (λ r. refl) (λ r. refl) (λ r. refl) rs regular
 
 -- all packets of a record that a list sends may ride
 abbrev Rides : ℕ → List ℕ → Record → Type 0

@@ -88,6 +88,7 @@ fn put_line_in_range(out: &mut [u8], letter: u8, numbers: &[u64]) -> usize
 }
 
 // The lines of an answer, one after the other.
+#[tactic(auto, using(crate::proofs::Facts::Puts::put_one_line))]
 pub fn put_lines_in_range(out: &mut [u8], lines: Lines) -> usize
     requires { AreFew lines × (room ≤ length out.old) }
     ensures put { IsPut (AreLines (lines_of lines)) out.old out.new 0 result }

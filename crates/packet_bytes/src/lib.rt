@@ -21,7 +21,9 @@ pub fn write_ids_in_room(part: &mut [u8], ids: &[u16])
     ensures { part.new ≡ id_bytes ids.now ++ drop (2 * length ids.now) part.old }
 {
     for (k, id) in ids.iter().enumerate() {
-        part[2 * k..2 * k + 2].copy_from_slice(&id.to_be_bytes());
+        let [high, low] = id.to_be_bytes();
+        part[2 * k] = high;
+        part[2 * k + 1] = low;
     }
 }
 

@@ -2,7 +2,7 @@
 use Rattle.std.specs.Prelude.{◌≡◌, Bool, ℕ, ◌-◌, ◌≤◌, length, get_or, take, drop}
 use Rattle.std.proofs.Math.Path.{sym, subst⁻¹}
 use Rattle.std.proofs.Common.{ap, subst, ◌∙◌, arith}
-use mathlib.Core.List.{List}
+use mathlib.Core.List.{List, []}
 use Rattle.basics.specs.Decides.{Decides}
 use Rattle.basics.specs.Facts.Decides.{same_as}
 use Rattle.basics.specs.Refusals.{answer_of}
@@ -10,8 +10,8 @@ use Rattle.packet_bytes.specs.Layout.{Values}
 use Rattle.packet_bytes.specs.Parts.{start_in, ids_in, values_in}
 use Rattle.packet_bytes.specs.Facts.Layout.{AreBytes, bytes_kept}
 use Rattle.packets.specs.Good.{IsGood, IsGoodPacket}
-use Rattle.packets.specs.Reading.{HasLength, read_refusals, refused_read, IsRead}
-use Rattle.packets.specs.Facts.Reading.{values_read, answers_26, answers_27, good_is_read, read_refused}
+use Rattle.packets.specs.Reading.{HasLength, read_refusals, refused_read, IsRead, ids_part}
+use Rattle.packets.specs.Facts.Reading.{values_read, answers_26, answers_27, good_is_read, read_is_good, read_refused, no_part, rest_is_part}
 
 module _ (p : List ℕ) where
   -- no good packet is refused, and a refused read gives its number and zeros
@@ -50,3 +50,11 @@ module _ (p : List ℕ) where
           refused = λ some. absurd (some (good_is_read p is));
         },
       )
+
+  -- the part of the ids is all bytes of a good packet from byte 6 on ..
+  pub good_part : IsGoodPacket p → take (length p - 6) (drop 6 p) ≡ ids_part p
+  good_part good = rest_is_part p (good_is_read p good)
+
+  -- .. and empty where they are those of no good packet
+  pub bad_part : (IsGoodPacket p → ⊥) → [] ≡ ids_part p
+  bad_part bad = no_part p (λ zero. bad (read_is_good p zero))

@@ -123,6 +123,7 @@ pub fn packet_read(packet: &[u8]) -> Header
 }
 
 // Annex 10.8: the second call, the ids' bytes. The packet is tested again, since a caller may not have read it.
+#[tactic(auto, using(crate::proofs::Reading::good_part, crate::proofs::Reading::bad_part))]
 pub fn packet_ids(packet: &[u8]) -> &[u8]
     ensures { result.now ≡ ids_part packet.now }
 {

@@ -1,5 +1,6 @@
 -- What the functions that test links promise one another.
-use Rattle.std.specs.Prelude.{◌≡◌, ℕ, ◌≤◌, ◌<◌}
+use Rattle.std.specs.Prelude.{◌≡◌, ℕ, ◌+◌, ◌*◌, ◌≤◌, ◌<◌}
+use Rattle.basics.specs.Below.{Between}
 use Rattle.basics.specs.Limits.{places}
 use Rattle.places.specs.Order.{Entry, Before}
 use Rattle.queue.specs.Layout.{IsNode, bucket_of, Linked}
@@ -25,3 +26,11 @@ pub record PlaceRight (rows : ℕ → Entry) (next prev : ℕ → ℕ) (x : ℕ)
 
 abbrev pub HeadRight : (ids keys next prev : ℕ → ℕ) → ℕ → Type 0
 HeadRight ids keys next prev x = NextRight ids keys prev x (next x) × PrevRight ids next x (prev x)
+
+-- A head that is its own neighbour, as that of an empty bucket is.
+abbrev pub HeadAlone : (next prev : ℕ → ℕ) → ℕ → Type 0
+HeadAlone next prev x = (next x ≡ x) × (prev x ≡ x)
+
+-- The heads of one block of sixteen, of which there are thirty.
+pub record BlockRight (ids keys next prev : ℕ → ℕ) (block : ℕ) : Type 0 where
+  pub heads : Between (places + 16 * block) (places + 16 * block + 16) (HeadRight ids keys next prev)

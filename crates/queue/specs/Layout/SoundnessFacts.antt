@@ -1,8 +1,8 @@
 -- What the functions that test a queue's links promise one another, and why those tests, with that of the places, decide soundness.
-use Rattle.std.specs.Prelude.{◌≡◌, Bool, ℕ, ◌<◌}
+use Rattle.std.specs.Prelude.{◌≡◌, Bool, ℕ, ◌-◌, ◌/◌, ◌<◌}
 use Rattle.std.proofs.Common.{sym, ap, subst, ◌∙◌, inl, inr, lt_irrefl, arith}
 use Rattle.std.proofs.Math.Path.{subst⁻¹}
-use Rattle.basics.specs.Below.{Between}
+use Rattle.basics.specs.Below.{Below, Between}
 use Rattle.basics.specs.Decides.{Decides}
 use Rattle.basics.specs.Facts.Decides.{same_as}
 use Rattle.basics.specs.Limits.{places}
@@ -10,7 +10,7 @@ use Rattle.places.specs.Order.{Entry, Before}
 use Rattle.places.specs.Soundness.{PlacesSound}
 use Rattle.queue.specs.Layout.{id_at, key_at, release_at, entry_at, next_at, prev_at, bucket_of, Linked, AllLinked, Sound}
 use Rattle.queue.specs.declared.Queue.{Queue}
-use Rattle.queue.specs.Layout.Soundness.{EntryNext, HeadRight, PlaceRight, PrevRight}
+use Rattle.queue.specs.Layout.Soundness.{BlockRight, EntryNext, HeadRight, PlaceRight, PrevRight}
 
 -- a node is linked by its two links, n the next node and p the one before ..
 module _ {rows : ℕ → Entry} {next prev : ℕ → ℕ} {x n p : ℕ} (on : n ≡ next x) (back : p ≡ prev x) where
@@ -78,3 +78,12 @@ sound_from q p links =
 pub sound_last : (q : Queue) {b : Bool} → PlacesSound (id_at q) (key_at q) (release_at q)
     → Decides b (AllLinked (entry_at q) (next_at q) (prev_at q)) → Decides b (Sound q)
 sound_last q p = same_as (sound_from q p) (λ s. s.links)
+
+-- thirty blocks of sixteen are all the heads ..
+pub heads_of_blocks : {ids keys next prev : ℕ → ℕ} → Below 30 (BlockRight ids keys next prev) → Between places 544 (HeadRight ids keys next prev)
+heads_of_blocks blocks x low high =
+    (blocks ((x - places) / 16) (omega (arith, low, high))).heads x (omega (arith, low)) (omega (arith, low))
+
+-- .. and no others
+pub blocks_of_heads : {ids keys next prev : ℕ → ℕ} → Between places 544 (HeadRight ids keys next prev) → Below 30 (BlockRight ids keys next prev)
+blocks_of_heads heads block before = record { heads = λ x low high. heads x (omega (arith, low)) (omega (arith, before, high)) }

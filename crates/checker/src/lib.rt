@@ -1,7 +1,9 @@
 // A checker of plans that somebody else made: packets laid end to end, and a planner to begin from. Nothing is taken on trust.
 #![tactic(auto)]
 
+ghost use Rattle.std.specs.Prelude.{◌≡◌};
 ghost use Rattle.state.specs.Sound.{Sound};
+ghost use Rattle.table.specs.Table.{records_of};
 ghost use Rattle.checker.specs.Verdicts.{IsFinding, IsVerdict};
 
 use basics::Refusal;
@@ -33,12 +35,13 @@ pub struct Finding {
     pub at: usize,
 }
 
-// How far a plan passes from a planner that is sound.
-fn find_sound(p: Planner, plan: &[u8]) -> Finding
-    requires { Sound p }
+// How far a plan passes from a planner that is sound and whose streams these are. They are handed over, not made here: a variable for what a call
+// returns is zeroed first, and this one has 2,056 bytes.
+fn find_sound(p: Planner, mut streams: Streams, plan: &[u8]) -> Finding
+    requires sound { Sound p }
+    requires held { streams ≡ records_of p.table }
     ensures { IsFinding p plan.now result }
 {
-    let mut streams = Streams::of_table(&p.table);
     let mut last = p.last;
     let mut passed: u32 = 0;
     let mut at: usize = 0;
@@ -73,7 +76,7 @@ pub fn find(p: Planner, plan: &[u8]) -> Finding
     ensures { IsFinding p plan.now result }
 {
     match state::sound_start(&p) {
-        Some(_) => find_sound(p, plan),
+        Some(_) => find_sound(p, Streams::of_table(&p.table), plan),
         None => Finding {
             answer: u32::from(Refusal::NotSound),
             passed: 0,

@@ -1,12 +1,9 @@
 use native.Mathlib.Omega.{arith}
-use Rattle.checker.proofs.Facts.Checking.{can_show, none_checked, rounds_fit, front_within, front_some, one_more_checked, breaks_here, plan_passes}
+use Rattle.checker.proofs.Facts.Checking.{none_checked, rounds_fit, front_within, front_some, one_more_checked, breaks_here, plan_passes}
 use Rattle.checker.proofs.find_sound.Goals as goal
 
-pub of_table-streams-requires : goal.of_table-streams-requires
-of_table-streams-requires c = can_show c.args.p c.requires
-
 pub loop-at-init : goal.loop-at-init
-loop-at-init c = rw c.of_table-streams.ensures (none_checked c.args.p c.requires)
+loop-at-init c = rw c.requires.held (none_checked c.args.p c.requires.sound)
 
 pub overflow_add-passed : goal.overflow_add-passed
 overflow_add-passed c = omega (arith, rounds_fit c.loop-at.invariant)

@@ -28,7 +28,7 @@
  * Three things that a caller must see to, which no call tests:
  *   1. the memory: no pointer is null and each is aligned; a planner has been written before it is lent (PLANNER_INIT will do); a buffer has the
  *      length that is passed; planner and buffer do not overlap; nobody else touches them during a call;
- *   2. the stack: check takes some 18 kB of it, a round some 17 kB, add, remove and send some 10 kB;
+ *   2. the stack: a round takes some 17 kB of it, check some 11 kB, add, remove and send some 10 kB;
  *   3. the version: it is the same in every host on a bus.
  *
  * The rest: what each call does and refuses stands at its prototype; what C has to keep, what is proved and what is not, versions, damage and stack
@@ -307,7 +307,7 @@ PLANNER_FIELD(planner_verdict, round, 4);
  *     planner and plan meanwhile;
  *   - the same version in every host on a bus (Annex 13.8).
  *
- * Versions. Hosts compare the first number, 8 of 8.0.3, which planner_version() and PLANNER_VERSION give; the other two count changes that move no
+ * Versions. Hosts compare the first number, 8 of 8.0.4, which planner_version() and PLANNER_VERSION give; the other two count changes that move no
  * answer. A host that compares planner_version() with PLANNER_VERSION finds out a library of another version than the header it was compiled with;
  * libraries before 6.0.0 have no such function, and a program that calls it does not link with them. Nothing in a planner says which version made it,
  * and no call refuses it for that (Annex 13.8).
@@ -323,8 +323,8 @@ PLANNER_FIELD(planner_verdict, round, 4);
  * library has to have its own, as examples/c/freestanding.c has. No heap; no pointer is kept, and no call writes anything but what it is lent and
  * its stack. Every call returns, if these two do and the stack is large enough; nothing tests that it is (Annex 13.9).
  *
- * Stack, in bytes, return address and memcpy and memset of glibc included: open 1,128, add 10,032, remove 10,000, send 10,064, round 16,544, check
- * 17,280, filled and version 24 (16 of each are the measuring program's). Measured on a painted stack (`bash bench/stack`), the most over calls of
+ * Stack, in bytes, return address and memcpy and memset of glibc included: open 1,128, add 10,016, remove 9,984, send 10,048, round 16,528, check
+ * 10,512, filled and version 24 (16 of each are the measuring program's). Measured on a painted stack (`bash bench/stack`), the most over calls of
  * every answer on two dozen tables with up to 64 streams, half of them with messages on. That is this build, by the compiler that built it, and no
  * promise: measure again what is linked, and leave room above it. */
 

@@ -52,7 +52,7 @@
 //!   same version (Annex 13.8).
 //! - **Rust.** 1.81 or later.
 //! - **The machine.** A 64-bit x86 machine, for which the library is built.
-//! - **Stack.** A check takes some 18 kB, a round 17 kB, an add, a remove and a send 10 kB, as
+//! - **Stack.** A round takes some 17 kB, a check 11 kB, an add, a remove and a send 10 kB, as
 //!   measured and not proved (Annex 13.9; `planner.h` has the figures). Nothing tests that there is
 //!   as much.
 //! - **No heap, no `std`.** The library needs `memcpy` and `memset` as C has them, and nothing else.
